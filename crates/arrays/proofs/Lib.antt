@@ -1,0 +1,5 @@
+pub mod UpdateLaws
+pub mod EntryLaws
+pub mod PartLaws
+pub mod RegionLaws
+pub mod FoldLaws

@@ -1,0 +1,131 @@
+-- Document 01's "Table to be proved", and the examples of its "Numbers handed back", by computation over the definitions.
+-- Assumes nothing.
+use Prim.Native.Nat.{ℕ, _+_}
+use mathlib.Core.Path.{_≡_, refl}
+use mathlib.Core.Bool.{true, false}
+use mathlib.Core.List.{List, [], _∷_, _++_, map}
+use lib.Dec.{T}
+use lib.IntN.{ℤ, pos, negsuc}
+use lib.ListN.{replicate}
+use lib.Ieee.{Float, nan, inf, binary64, add, mul, div, neg, eq, ofInt}
+use Rattle.arrays.specs.Update.{updateFrom, entries, only}
+use Rattle.arrays.specs.Fold.{fold, among, solved}
+use Rattle.definitions.specs.Number.{_⊘_, 0f, 1f, scalar, factor, start}
+use Rattle.definitions.specs.Storage.{stored, transposed, op, inside, opTriangle, mirrored, withDiagonal, needed}
+use Rattle.definitions.specs.Call as Call
+use Rattle.definitions.specs.Element as Element
+use Rattle.definitions.specs.Check as Check
+use Rattle.definitions.specs.Check.{'N', 'U', 'L'}
+use Rattle.definitions.specs.Direct as Direct
+use Rattle.definitions.specs.Direct.{Done, gemm, symm, syrk, syr2k, trmm, trsm}
+use Rattle.definitions.specs.Machine as Machine
+use Rattle.definitions.specs.Sheet as Sheet
+use Rattle.definitions.specs.Sheet.{Arrays}
+use Rattle.definitions.specs.Run as Run
+use Rattle.definitions.specs.Run.{Ran, ran, runs, last}
+use Rattle.definitions.proofs.Same.{sameInteger, sameFloats, same-integer, same-floats}
+
+-- "lists are column by column; each leading dimension is its matrix's rows; P = 9007199254740992"
+num : ℕ → Float
+num n = ofInt binary64 (pos n)
+
+vec : List ℕ → List Float
+vec ns = map num ns
+
+P : ℕ
+P = 9007199254740992
+
+-- accepted, with the list as result
+gives : List Float → Done
+gives v = record { number = pos 0; array = v }
+
+gives-is : (d : Done) (v : List Float) → T (sameInteger (d .number) (pos 0)) → T (sameFloats (d .array) v) → d ≡ gives v
+unfolding gives
+gives-is d v t u = let p = same-integer (d .number) (pos 0) t in let q = same-floats (d .array) v u in λ i. record { number = p i; array = q i }
+
+-- GEMM, neither transposed
+gemmNN : ℕ → ℕ → ℕ → Float → List Float → List Float → Float → List Float → Done
+gemmNN m n k alpha a b beta c =
+    gemm (pos 'N') (pos 'N') (pos m) (pos n) (pos k) alpha a (pos m) b (pos k) beta c (pos m) (pos 64) (pos 64)
+
+-- "sheet of one GEMM, m = k = 1, n 3, w 1, all else sound": A is X, B is Y, C is Z
+sheet : Sheet.Sheet
+sheet = record {
+  words = map pos (1 ∷ 0 ∷ 0 ∷ 'N' ∷ 'N' ∷ 0 ∷ 1 ∷ 3 ∷ 1 ∷ 0 ∷ 0 ∷ 1 ∷ 1 ∷ 0 ∷ 1 ∷ 2 ∷ 0 ∷ 1 ∷ 1 ∷ 1 ∷ 0 ∷ 1 ∷ []);
+  scalars = 1f ∷ 0f ∷ [];
+}
+
+lent : Arrays
+lent = record { x = vec (2 ∷ []); y = vec (3 ∷ 4 ∷ 5 ∷ []); z = vec (0 ∷ 0 ∷ 0 ∷ []) }
+
+-- before the first run, at the cursor (p, s)
+before : ℤ → ℤ → Ran
+before p s = ran 0 p s 0 lent (pos 7 ∷ [])
+
+cursor : Ran → ℤ × ℤ
+cursor r = (r .end .p, r .end .s)
+
+-- α = 1, β = 0 unless given
+table :
+    -- a
+    (gemmNN 2 2 2 1f (vec (1 ∷ 3 ∷ 2 ∷ 4 ∷ [])) (vec (5 ∷ 7 ∷ 6 ∷ 8 ∷ [])) 0f (vec (0 ∷ 0 ∷ 0 ∷ 0 ∷ [])) ≡ gives (vec (19 ∷ 43 ∷ 22 ∷ 50 ∷ [])))
+    -- b
+    × (gemmNN 1 1 3 1f (vec (P ∷ 1 ∷ 1 ∷ [])) (vec (1 ∷ 1 ∷ 1 ∷ [])) 0f (vec (0 ∷ [])) ≡ gives (vec (P ∷ [])))
+    -- c
+    × (gemmNN 1 1 3 1f (vec (1 ∷ 1 ∷ P ∷ [])) (vec (1 ∷ 1 ∷ 1 ∷ [])) 0f (vec (0 ∷ [])) ≡ gives (vec ((P + 2) ∷ [])))
+    -- d
+    × (gemmNN 1 1 1 1f (vec (2 ∷ [])) (vec (3 ∷ [])) 0f (nan ∷ []) ≡ gives (vec (6 ∷ [])))
+    -- e
+    × (gemmNN 1 1 1 1f (inf false ∷ []) (vec (0 ∷ [])) 0f (vec (0 ∷ [])) ≡ gives (nan ∷ []))
+    -- f
+    × (gemmNN 1 1 1 0f (inf false ∷ []) (vec (1 ∷ [])) (num 2) (vec (3 ∷ [])) ≡ gives (vec (6 ∷ [])))
+    -- g
+    × (symm (pos 'L') (pos 'U') (pos 2) (pos 1) 1f (vec (1 ∷ 9 ∷ 2 ∷ 3 ∷ [])) (pos 2) (vec (1 ∷ 1 ∷ [])) (pos 2) 0f (vec (0 ∷ 0 ∷ [])) (pos 2) (pos 64) (pos 64)
+    ≡ gives (vec (3 ∷ 5 ∷ [])))
+    -- h
+    × (syrk (pos 'L') (pos 'N') (pos 2) (pos 1) 1f (vec (1 ∷ 2 ∷ [])) (pos 2) 1f (vec (10 ∷ 20 ∷ 30 ∷ 40 ∷ [])) (pos 2) (pos 64) (pos 64)
+    ≡ gives (vec (11 ∷ 22 ∷ 30 ∷ 44 ∷ [])))
+    -- i
+    × (syr2k (pos 'L') (pos 'N') (pos 2) (pos 1) 1f (vec (1 ∷ 2 ∷ [])) (pos 2) (vec (3 ∷ 4 ∷ [])) (pos 2) 0f (vec (9 ∷ 9 ∷ 9 ∷ 9 ∷ [])) (pos 2) (pos 64) (pos 64)
+    ≡ gives (vec (6 ∷ 10 ∷ 9 ∷ 16 ∷ [])))
+    -- j
+    × (trmm (pos 'L') (pos 'U') (pos 'N') (pos 'U') (pos 2) (pos 1) 1f (vec (9 ∷ 9 ∷ 2 ∷ 9 ∷ [])) (pos 2) (vec (3 ∷ 4 ∷ [])) (pos 2) (pos 64) (pos 64)
+    ≡ gives (vec (11 ∷ 4 ∷ [])))
+    -- k
+    × (trsm (pos 'L') (pos 'L') (pos 'N') (pos 'N') (pos 2) (pos 1) (num 2) (vec (2 ∷ 1 ∷ 9 ∷ 4 ∷ [])) (pos 2) (vec (3 ∷ 7 ∷ [])) (pos 2) (pos 64) (pos 64)
+    ≡ gives (num 3 ∷ (num 11 ⊘ num 4) ∷ []))
+    -- l
+    × (trsm (pos 'L') (pos 'U') (pos 'N') (pos 'U') (pos 3) (pos 1) 1f (vec (1 ∷ 0 ∷ 0 ∷ 1 ∷ 1 ∷ 0 ∷ 1 ∷ 0 ∷ 1 ∷ [])) (pos 3)
+    (num 1 ∷ num P ∷ neg (num P) ∷ []) (pos 3) (pos 64) (pos 64)
+    ≡ gives (num 0 ∷ num P ∷ neg (num P) ∷ []))
+    -- m
+    × (map cursor (runs sheet (2 ∷ 1 ∷ []) (before (pos 0) (pos 0))) ≡ (pos 0, pos 2) ∷ (pos 1, pos 0) ∷ [])
+unfolding num vec P gives gemmNN sheet lent before cursor gemm symm syrk syr2k trmm trsm Direct.done
+    Check.checked Check.number Check.leaves Check.idle Check.refusal Check.firstBad Check.places Check.arrays Check.bad Check.badWith Check.badWidth Check.width
+    Check.untested Check.short Check.badLd Check.callOf Check.is Check.sideOf Check.uploOf Check.transOf Check.diagOf
+    Element.result Element.strip Element.arrayB Element.value Element.gemm Element.symm Element.syrk Element.syr2k Element.trmm Element.trsm Element.solveNext
+    Element.divided Element.turn Element.solvesUp Element.triangle Element.triangular Element.accumulated Element.allTerms Element.productTerm Element.term
+    Call.bySide Call.hasM Call.hasK Call.inPlace Call.empty Call.startOnly Call.storedAs Call.order Call.shapeA Call.shapeB Call.shapeC Call.ldOutput
+    Call.inTriangle Call.inOutput Call.cutsRows Call.extent Call.strips Call.cut Call.writes
+    stored transposed op inside opTriangle mirrored withDiagonal needed updateFrom entries only fold among solved scalar factor start
+    Machine.closed Machine.perform Machine.finished Machine.step Machine.iterate Machine.made
+    Sheet.act Sheet.actBy Sheet.accepted Sheet.stripDone Sheet.widthOf Sheet.recordRefusal Sheet.argsOf Sheet.badOffsets Sheet.badArrays Sheet.partLength Sheet.part
+    Sheet.lengths Sheet.withArray Sheet.array Sheet.betaOf Sheet.alphaOf Sheet.any Sheet.inputs Sheet.output Sheet.routineOf Sheet.field Sheet.records Sheet.sound
+    Sheet.count Sheet.index Sheet.word
+    Run.begin Run.after Run.stepsMade Run.tooShort Run.stripsOf Run.badCursor Run.runRefusal Run.run runs
+    ofInt add mul div neg eq
+table = (
+  gives-is _ _ tt tt,
+  gives-is _ _ tt tt,
+  gives-is _ _ tt tt,
+  gives-is _ _ tt tt,
+  gives-is _ _ tt tt,
+  gives-is _ _ tt tt,
+  gives-is _ _ tt tt,
+  gives-is _ _ tt tt,
+  gives-is _ _ tt tt,
+  gives-is _ _ tt tt,
+  gives-is _ _ tt tt,
+  gives-is _ _ tt tt,
+  refl,
+)

@@ -1,0 +1,9 @@
+pub mod Number
+pub mod Storage
+pub mod Call
+pub mod Element
+pub mod Check
+pub mod Direct
+pub mod Machine
+pub mod Sheet
+pub mod Run

@@ -1,0 +1,53 @@
+-- The plain machine, over any type M of arrays and whatever its records do.
+use Prim.Native.Nat.{ℕ, zero, suc}
+use mathlib.Core.Bool.{Bool, true, false}
+use mathlib.Core.List.{List}
+use lib.Dec.{ltb, eqb}
+use lib.IntN.{ℤ, pos}
+use lib.ListN.{set}
+use Rattle.arrays.specs.Choice.{if_then_else_}
+
+-- "Its state: X, Y, Z, answers (i32, one for each record; any further ones stay) and a cursor (p, s)."
+pub record State (M : Type 0) : Type 0 where
+  pub arrays : M
+  pub answers : List ℤ
+  pub p : ℕ
+  pub s : ℕ
+
+-- What record p does: it is refused with a number, or accepted with so many strips, each of which updates the arrays.
+pub data Act (M : Type 0) : Type 0 where
+  refuse : ℕ → Act M
+  work : ℕ → (ℕ → M → M) → Act M
+
+-- "it writes the number in answer p and goes to (p+1, 0)"
+unfoldable pub closed : {M : Type 0} → M → List ℤ → ℕ → ℕ → State M
+closed arrays answers p number = record { arrays = arrays; answers = set answers p (pos number); p = suc p; s = 0 }
+
+-- "If refused, it writes the number in answer p and goes to (p+1, 0). If accepted, it gives each element of strip s that the routine writes its
+-- ladder value, from the arrays before the step."; "After the last strip it writes 0 in answer p and goes to (p+1, 0); else to (p, s+1)."
+unfoldable pub perform : {M : Type 0} → Act M → State M → State M
+perform (refuse number) st = closed (st .arrays) (st .answers) (st .p) number
+perform (work strips update) st =
+    let arrays = update (st .s) (st .arrays) in
+    let next : State _ = record { arrays = arrays; answers = st .answers; p = st .p; s = suc (st .s) } in
+    let last = closed arrays (st .answers) (st .p) 0 in
+    if ltb (suc (st .s)) strips then next else last
+
+module _ {M : Type 0} (count : ℕ) (act : ℕ → M → Act M) where
+  -- "If p equals the count it is finished."
+  unfoldable pub finished : State M → Bool
+  finished st = eqb (st .p) count
+
+  -- "Otherwise a step reads record p."
+  unfoldable pub step : State M → State M
+  step st = let next = perform (act (st .p) (st .arrays)) st in if finished st then st else next
+
+  -- The state after n steps, "or fewer if it finishes".
+  unfoldable pub iterate : ℕ → State M → State M
+  iterate zero st = st
+  iterate (suc n) st = iterate n (step st)
+
+  -- "The machine's total is the number of steps it has made; once finished it makes none."
+  unfoldable pub made : ℕ → State M → ℕ
+  made zero st = 0
+  made (suc n) st = let more = suc (made n (step st)) in if finished st then 0 else more
