@@ -1,19 +1,19 @@
 -- Laws of entry maps: entry (i, j) of an array with leading dimension ld, masks, and two entry maps in a row.
 -- Assumes nothing.
-use mathlib.Core.Bool.{Bool, true, false, _&&_, and-false}
-use mathlib.Core.Path.{_≡_, refl, sym, ap, ap₂, subst, _∙_}
+use mathlib.Core.Bool.{Bool, true, false, and-false}
+use mathlib.Core.Path.{_≡_, refl, sym, ap, ap₂, _∙_}
 use mathlib.Core.Logic.{⊎-elim}
 use mathlib.Core.List.{List}
-use Prim.Native.Nat.{ℕ, zero, suc, _+_, _-_, _*_, _/_, _%_, _<_, _≤_}
+use Prim.Native.Nat.{ℕ, _+_, _-_, _*_, _/_, _%_, _<_, _≤_}
 use native.Mathlib.Nat.{mod-lt, div-add-mod'}
 use native.Mathlib.Omega.{arith}
 use lib.Arith.{digits-div, digits-mod}
-use lib.Dec.{leb, ltb}
-use lib.ListN.{length, getD}
+use lib.ListN.{length, getD, List·getD-eq-default}
 use borrow.Author.Tests.{lt-ltb, le-ltb, le-leb, lt-leb}
 use Rattle.arrays.specs.Choice.{if_then_else_}
 use Rattle.arrays.specs.Update.{EntryMap, Mask, update, entries, only, box, shifted}
-use Rattle.arrays.proofs.UpdateLaws.{lt-or-ge, update-then, update-same, update-keep, at-update}
+use Rattle.arrays.proofs.Tests.{if-both, if-same}
+use Rattle.arrays.proofs.UpdateLaws.{lt-or-ge, update-then, update-same, update-keep, at-update, length-update}
 
 module _ {A : Type 0} where
   -- element j * ld + i is entry (i, j)
@@ -24,6 +24,16 @@ module _ {A : Type 0} where
   pub entry-at : (d : A) (ld : ℕ) (f : EntryMap A) (l : List A) (i j : ℕ) → i < ld → j * ld + i < length l
       → getD (update (entries ld f) l) (j * ld + i) d ≡ f i j (getD l (j * ld + i) d)
   entry-at d ld f l i j h b = at-update (entries ld f) l (j * ld + i) d b ∙ entry ld f i j (j * ld + i) _ h refl
+
+  -- an entry that the map keeps, within the array or not
+  pub entry-kept : (d : A) (ld : ℕ) (f : EntryMap A) (l : List A) (i j : ℕ) → i < ld → ((x : A) → f i j x ≡ x)
+      → getD (update (entries ld f) l) (j * ld + i) d ≡ getD l (j * ld + i) d
+  entry-kept d ld f l i j h k =
+      ⊎-elim
+      (λ b. entry-at d ld f l i j h b ∙ k _)
+      (λ b.
+      List·getD-eq-default (update (entries ld f) l) d (omega (arith, length-update (entries ld f) l)) ∙ sym (List·getD-eq-default l d b))
+      (lt-or-ge (j * ld + i) (length l))
 
   -- what holds of all entries (i, j) within the array holds of each element
   module _ (ld : ℕ) (l : List A) (pos : 0 < ld) where
@@ -56,13 +66,13 @@ module _ {A : Type 0} where
     unfolding only
     only-out h = rw h
 
+    pub only-same : (g : EntryMap A) → (inside i j ≡ true → f i j x ≡ g i j x) → only inside f i j x ≡ only inside g i j x
+    unfolding only
+    only-same g h = if-both (inside i j) (f i j x) x (g i j x) x h (λ _. refl)
+
     pub only-keep : f i j x ≡ x → only inside f i j x ≡ x
     unfolding only
-    only-keep h = go (inside i j)
-      where
-        go : (b : Bool) → (if b then f i j x else x) ≡ x
-        go true = h
-        go false = refl
+    only-keep h = if-both (inside i j) (f i j x) x x x (λ _. h) (λ _. refl) ∙ if-same (inside i j) x
 
   -- one mask and then another that it does not meet
   pub only-join : (first second both : Mask) (f : EntryMap A) (i j : ℕ) (x : A)

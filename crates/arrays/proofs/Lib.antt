@@ -1,3 +1,4 @@
+pub mod Tests
 pub mod UpdateLaws
 pub mod EntryLaws
 pub mod PartLaws

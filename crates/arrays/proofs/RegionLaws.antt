@@ -5,13 +5,13 @@ use mathlib.Core.Path.{_≡_, refl, sym, ap, subst, _∙_}
 use mathlib.Core.Logic.{⊎-elim}
 use mathlib.Core.List.{List}
 use Prim.Native.Nat.{ℕ, _+_, _-_, _*_, _/_, _%_, _<_, _≤_}
-use native.Mathlib.Nat.{add-zero, mod-lt, div-add-mod', mod-eq-of-lt, div-eq-of-lt, le-div-iff-mul-le, one-mul}
+use native.Mathlib.Nat.{le-div-iff-mul-le, one-mul}
 use native.Mathlib.Omega.{arith}
-use lib.ListN.{length, getD, take, drop}
+use lib.ListN.{length, take, drop}
 use borrow.Rule.Slice.PartMut.{putMid}
 use Rattle.arrays.specs.Update.{EntryMap, update, below, entries, only, box, shifted, region}
-use Rattle.arrays.proofs.UpdateLaws.{lt-or-ge, update-same, update-keep, below-in, below-out}
-use Rattle.arrays.proofs.EntryLaws.{entry, entries-then, entries-same, entries-keep, only-in, only-out, only-keep, box-in, box-row-out, box-column-out, shifted-in, shifted-row-out, shifted-column-out}
+use Rattle.arrays.proofs.UpdateLaws.{lt-or-ge, update-same, below-in, below-out}
+use Rattle.arrays.proofs.EntryLaws.{entry, entries-then, entries-same, entries-keep, only-in, only-out, box-in, box-row-out, box-column-out, shifted-in, shifted-row-out, shifted-column-out}
 use Rattle.arrays.proofs.PartLaws.{block-then}
 
 module _ {A : Type 0} (rows cols : ℕ) (f : EntryMap A) (i j : ℕ) (x : A) where

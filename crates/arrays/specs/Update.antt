@@ -7,9 +7,9 @@
 --     box        the mask of the rows below `rows` and the columns below `cols`
 --     region     an entry map on that box
 --     shifted    an entry map of the block that starts at row i₀ and column j₀
-use mathlib.Core.Bool.{Bool, true, false, _&&_}
+use mathlib.Core.Bool.{Bool, _&&_}
 use mathlib.Core.List.{List, [], _∷_}
-use Prim.Native.Nat.{ℕ, zero, suc, _+_, _-_, _/_, _%_}
+use Prim.Native.Nat.{ℕ, suc, _-_, _/_, _%_}
 use lib.Dec.{leb, ltb}
 use Rattle.arrays.specs.Choice.{if_then_else_}
 

@@ -2,7 +2,7 @@
 -- Assumes nothing.
 use Prim.Native.Nat.{ℕ, _+_}
 use mathlib.Core.Path.{_≡_, refl}
-use mathlib.Core.Bool.{true, false}
+use mathlib.Core.Bool.{false}
 use mathlib.Core.List.{List, [], _∷_, _++_, map}
 use lib.Dec.{T}
 use lib.IntN.{ℤ, pos, negsuc}
@@ -65,6 +65,42 @@ before p s = ran 0 p s 0 lent (pos 7 ∷ [])
 cursor : Ran → ℤ × ℤ
 cursor r = (r .end .p, r .end .s)
 
+-- A GEMM of 1 by 1 matrices but for what it is given.
+direct : ℤ → ℤ → ℤ → ℤ → List Float → Done
+direct transa m lda w c = gemm transa (pos 'N') m (pos 1) (pos 1) 1f (vec (1 ∷ 1 ∷ [])) lda (vec (1 ∷ [])) (pos 1) 0f c (pos 2) w (pos 64)
+
+-- A sheet of one record of the routine, with A's array and offset, and C's array; its matrices are 1 by 1.
+recordOf : ℕ → ℕ → ℤ → ℕ → Sheet.Sheet
+recordOf routine arrayA offset arrayC = record {
+  words = map pos (routine ∷ 0 ∷ 'L' ∷ 'N' ∷ 'N' ∷ 0 ∷ 1 ∷ 1 ∷ 1 ∷ arrayA ∷ []) ++ (offset ∷ map pos (1 ∷ 1 ∷ 0 ∷ 1 ∷ arrayC ∷ 0 ∷ 1 ∷ 64 ∷ 64 ∷ 0 ∷ 1 ∷ []));
+  scalars = 1f ∷ 0f ∷ [];
+}
+
+-- the answers that one run leaves, and the number that it hands back
+answersOf : Sheet.Sheet → List ℤ
+answersOf t = last (before (pos 0) (pos 0)) (runs t (1 ∷ []) (before (pos 0) (pos 0))) .answers
+
+numberOf : Sheet.Sheet → ℤ → ℤ → List ℤ
+numberOf t p s = Run.numbers (runs t (1 ∷ []) (before p s))
+
+-- Everything that the table and the examples compute with.
+abbrev opened : ℕ
+unfolding num vec P gives gemmNN sheet lent before cursor direct recordOf answersOf numberOf gemm symm syrk syr2k trmm trsm Direct.done
+    Check.checked Check.number Check.leaves Check.idle Check.refusal Check.firstBad Check.places Check.arrays Check.bad Check.badWith Check.badWidth Check.width
+    Check.untested Check.short Check.badLd Check.callOf Check.is Check.sideOf Check.uploOf Check.transOf Check.diagOf
+    Element.result Element.strip Element.arrayB Element.value Element.gemm Element.symm Element.syrk Element.syr2k Element.trmm Element.trsm Element.solveNext
+    Element.divided Element.turn Element.solvesUp Element.triangle Element.triangular Element.accumulated Element.allTerms Element.productTerm Element.term
+    Call.bySide Call.hasM Call.hasK Call.inPlace Call.empty Call.startOnly Call.storedAs Call.order Call.shapeA Call.shapeB Call.shapeC Call.ldOutput
+    Call.inTriangle Call.inOutput Call.cutsRows Call.extent Call.strips Call.cut Call.writes
+    stored transposed op inside opTriangle mirrored withDiagonal needed updateFrom entries only fold among solved scalar factor start
+    Machine.stripsOf Machine.closed Machine.perform Machine.finished Machine.step Machine.iterate Machine.made
+    Sheet.act Sheet.actBy Sheet.accepted Sheet.stripDone Sheet.widthOf Sheet.recordRefusal Sheet.argsOf Sheet.badOffsets Sheet.badArrays Sheet.partLength Sheet.part
+    Sheet.lengths Sheet.withArray Sheet.array Sheet.betaOf Sheet.alphaOf Sheet.any Sheet.inputs Sheet.output Sheet.routineOf Sheet.field Sheet.records Sheet.sound
+    Sheet.count Sheet.index Sheet.word
+    Run.begin Run.after Run.stepsMade Run.tooShort Run.badCursor Run.runRefusal Run.run runs last Run.numbers
+    ofInt add mul div neg eq
+opened = 0
+
 -- α = 1, β = 0 unless given
 table :
     -- a
@@ -100,20 +136,7 @@ table :
     ≡ gives (num 0 ∷ num P ∷ neg (num P) ∷ []))
     -- m
     × (map cursor (runs sheet (2 ∷ 1 ∷ []) (before (pos 0) (pos 0))) ≡ (pos 0, pos 2) ∷ (pos 1, pos 0) ∷ [])
-unfolding num vec P gives gemmNN sheet lent before cursor gemm symm syrk syr2k trmm trsm Direct.done
-    Check.checked Check.number Check.leaves Check.idle Check.refusal Check.firstBad Check.places Check.arrays Check.bad Check.badWith Check.badWidth Check.width
-    Check.untested Check.short Check.badLd Check.callOf Check.is Check.sideOf Check.uploOf Check.transOf Check.diagOf
-    Element.result Element.strip Element.arrayB Element.value Element.gemm Element.symm Element.syrk Element.syr2k Element.trmm Element.trsm Element.solveNext
-    Element.divided Element.turn Element.solvesUp Element.triangle Element.triangular Element.accumulated Element.allTerms Element.productTerm Element.term
-    Call.bySide Call.hasM Call.hasK Call.inPlace Call.empty Call.startOnly Call.storedAs Call.order Call.shapeA Call.shapeB Call.shapeC Call.ldOutput
-    Call.inTriangle Call.inOutput Call.cutsRows Call.extent Call.strips Call.cut Call.writes
-    stored transposed op inside opTriangle mirrored withDiagonal needed updateFrom entries only fold among solved scalar factor start
-    Machine.closed Machine.perform Machine.finished Machine.step Machine.iterate Machine.made
-    Sheet.act Sheet.actBy Sheet.accepted Sheet.stripDone Sheet.widthOf Sheet.recordRefusal Sheet.argsOf Sheet.badOffsets Sheet.badArrays Sheet.partLength Sheet.part
-    Sheet.lengths Sheet.withArray Sheet.array Sheet.betaOf Sheet.alphaOf Sheet.any Sheet.inputs Sheet.output Sheet.routineOf Sheet.field Sheet.records Sheet.sound
-    Sheet.count Sheet.index Sheet.word
-    Run.begin Run.after Run.stepsMade Run.tooShort Run.stripsOf Run.badCursor Run.runRefusal Run.run runs
-    ofInt add mul div neg eq
+unfolding opened
 table = (
   gives-is _ _ tt tt,
   gives-is _ _ tt tt,
@@ -129,3 +152,22 @@ table = (
   gives-is _ _ tt tt,
   refl,
 )
+
+-- "Numbers handed back": the examples, in the order of the numbers.
+numbers :
+    (direct (pos 88) (pos 1) (pos 1) (pos 64) (vec (0 ∷ 0 ∷ [])) .number ≡ pos 1)
+    × (direct (pos 'N') (pos 2) (pos 1) (pos 64) (vec (0 ∷ 0 ∷ [])) .number ≡ pos 8)
+    × (direct (pos 'N') (pos 1) (pos 1) (pos 64) [] .number ≡ pos 12)
+    × (direct (pos 'N') (pos 1) (pos 1) (pos 65) (vec (0 ∷ 0 ∷ [])) .number ≡ pos 30)
+    × (answersOf (recordOf 7 0 (pos 0) 2) ≡ pos 31 ∷ [])
+    × (answersOf (recordOf 3 0 (pos 0) 0) ≡ pos 32 ∷ [])
+    × (answersOf (recordOf 3 0 (negsuc 0) 2) ≡ pos 33 ∷ [])
+    × (numberOf (record { words = pos 0 ∷ []; scalars = [] }) (pos 0) (pos 0) ≡ pos 34 ∷ [])
+    × (numberOf (record { words = map pos (replicate 20 0) ++ (negsuc 19 ∷ pos 2 ∷ []); scalars = [] }) (pos 0) (pos 0) ≡ pos 34 ∷ [])
+    × (numberOf (record { words = sheet .words; scalars = 1f ∷ [] }) (pos 0) (pos 0) ≡ pos 35 ∷ [])
+    × (numberOf sheet (pos 1) (pos 1) ≡ pos 36 ∷ [])
+    -- and accepted ones
+    × (answersOf (recordOf 3 0 (pos 0) 2) ≡ pos 0 ∷ [])
+    × (numberOf sheet (pos 0) (pos 2) ≡ pos 0 ∷ [])
+unfolding opened
+numbers = (refl, refl, refl, refl, refl, refl, refl, refl, refl, refl, refl, refl, refl)

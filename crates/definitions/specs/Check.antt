@@ -1,12 +1,12 @@
 -- The argument check of a direct call: codes, the table of places, the tests and their order, and its answer.
-use Prim.Native.Nat.{ℕ, zero, suc, _+_}
+use Prim.Native.Nat.{ℕ, _+_}
 use mathlib.Core.Bool.{Bool, true, false, not, _&&_, _||_}
 use mathlib.Core.List.{List, [], _∷_, _++_}
 use lib.Dec.{ltb, eqb}
 use lib.IntN.{ℤ, pos, negsuc}
 use lib.Ieee.{Float}
 use Rattle.arrays.specs.Choice.{if_then_else_}
-use Rattle.definitions.specs.Number.{isZero, isOne}
+use Rattle.definitions.specs.Number.{isOne}
 use Rattle.definitions.specs.Storage.{needed}
 use Rattle.definitions.specs.Call.{hasM, inPlace, empty, startOnly, shapeA, shapeB, shapeC}
 use Rattle.definitions.specs.Element.{result}

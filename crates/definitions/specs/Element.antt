@@ -1,6 +1,6 @@
 -- The value of each element: the fold of its terms, which document 01 calls the ladder of one element. And what a strip, and a whole call,
 -- leaves in the output's array.
-use Prim.Native.Nat.{ℕ, suc, _-_}
+use Prim.Native.Nat.{ℕ, _-_}
 use mathlib.Core.Bool.{Bool, true, false}
 use mathlib.Core.List.{List, [], _∷_}
 use lib.ListN.{getD}

@@ -1,3 +1,4 @@
+-- Document 01 as definitions, each beside the sentence that it stands for.
 pub mod Number
 pub mod Storage
 pub mod Call

@@ -1,6 +1,6 @@
 -- The plain machine, over any type M of arrays and whatever its records do.
 use Prim.Native.Nat.{ℕ, zero, suc}
-use mathlib.Core.Bool.{Bool, true, false}
+use mathlib.Core.Bool.{Bool}
 use mathlib.Core.List.{List}
 use lib.Dec.{ltb, eqb}
 use lib.IntN.{ℤ, pos}
@@ -18,6 +18,11 @@ pub record State (M : Type 0) : Type 0 where
 pub data Act (M : Type 0) : Type 0 where
   refuse : ℕ → Act M
   work : ℕ → (ℕ → M → M) → Act M
+
+-- The number of strips of a record, 0 if it is refused.
+unfoldable pub stripsOf : {M : Type 0} → Act M → ℕ
+stripsOf (refuse number) = 0
+stripsOf (work strips update) = strips
 
 -- "it writes the number in answer p and goes to (p+1, 0)"
 unfoldable pub closed : {M : Type 0} → M → List ℤ → ℕ → ℕ → State M

@@ -7,7 +7,7 @@ use Rattle.arrays.specs.Choice.{if_then_else_}
 use Rattle.definitions.specs.declared.Scalar.{Scalar}
 use Rattle.definitions.specs.declared.Scalar.the-variants.{Zero, One, Other}
 
--- "Every operation is one f64 operation, rounded once."
+-- "Every operation is one f64 operation, rounded once." ("Bit for bit" takes two NaNs as equal: the logic's floats have one.)
 infixl 60 _⊕_
 infixl 70 _⊗_ _⊘_
 abbrev pub _⊕_ : Float → Float → Float

@@ -1,13 +1,13 @@
 -- Runs of a sheet, and lists of runs.
 use Prim.Native.Nat.{ℕ, zero, suc, _+_, _*_}
-use mathlib.Core.Bool.{Bool, true, false, not, _||_}
+use mathlib.Core.Bool.{Bool, true, not, _||_}
 use mathlib.Core.List.{List, [], _∷_}
 use lib.Dec.{leb, ltb, eqb}
 use lib.IntN.{ℤ, pos, negsuc}
 use lib.ListN.{length}
 use Rattle.arrays.specs.Choice.{if_then_else_}
 use Rattle.definitions.specs.Check.{nat, negative}
-use Rattle.definitions.specs.Machine.{State, Act, refuse, work, iterate, made}
+use Rattle.definitions.specs.Machine.{State, stripsOf, iterate, made}
 use Rattle.definitions.specs.Sheet.{Sheet, Arrays, sound, records, act}
 use Rattle.definitions.specs.declared.RunEnd.{RunEnd}
 
@@ -29,11 +29,6 @@ stepsMade t n st = made (records t) (act t) n st
 -- 35: "answers under count, or scalars under 2·count"
 unfoldable pub tooShort : Sheet → List ℤ → Bool
 tooShort t answers = ltb (length answers) (records t) || ltb (length (t .scalars)) (2 * records t)
-
--- The number of strips of a record, 0 if it is refused.
-unfoldable pub stripsOf : Act Arrays → ℕ
-stripsOf (refuse number) = 0
-stripsOf (work strips update) = strips
 
 -- 36: "p below 0 or above count; s not 0 and not a strip of an accepted record p"
 unfoldable pub badCursor : Sheet → Arrays → ℤ → ℤ → Bool

@@ -1,6 +1,6 @@
 -- Storage of a matrix, and how its entries are read: op(A), the mirrored triangle, the unit diagonal.
 use Prim.Native.Nat.{ℕ, zero, suc, _+_, _*_}
-use mathlib.Core.Bool.{Bool, true, false}
+use mathlib.Core.Bool.{Bool}
 use mathlib.Core.List.{List}
 use lib.Dec.{leb, eqb}
 use lib.ListN.{getD}
