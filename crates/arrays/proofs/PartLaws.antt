@@ -1,7 +1,7 @@
 -- Laws of a part that is lent as `&s[a..]`, or as `&mut s[a..]` and comes back updated. The logic has the part from index a on as
 -- `take (length l - a) (drop a l)`, and the list with ys in the part's place as `putMid a (length l - a) l ys`.
 -- Assumes nothing.
-use mathlib.Core.Path.{_≡_, sym, ap, subst, _∙_}
+use mathlib.Core.Path.{_≡_, refl, sym, ap, subst, _∙_}
 use mathlib.Core.Logic.{⊎-elim}
 use mathlib.Core.List.{List, _++_, append-nil}
 use Prim.Native.Nat.{ℕ, _+_, _-_, _*_, _/_, _%_, _<_, _≤_}
@@ -12,7 +12,7 @@ use lib.Seq.{take-all, length-take-le, getD-take, getD-drop, getD-append-add}
 use borrow.Rule.Slice.PartMut.{putMid, same-len-mid}
 use Rattle.arrays.specs.Update.{EntryMap, update, entries, shifted}
 use Rattle.arrays.proofs.UpdateLaws.{lt-or-ge, length-update, at-update, is-update}
-use Rattle.arrays.proofs.EntryLaws.{entry, shifted-in, shifted-row-out, shifted-column-out}
+use Rattle.arrays.proofs.EntryLaws.{entry, entries-keep, shifted-in, shifted-row-out, shifted-column-out}
 
 -- column j of an array with leading dimension ld ends where column j + 1 begins
 pub column-room : (ld : ℕ) {j cols : ℕ} → j < cols → j * ld + ld ≤ cols * ld
@@ -143,3 +143,14 @@ module _ {A : Type 0} where
           ∙ outside (i₀ + r - ld) (j₀ + c + 1) (a + q) hr b o (λ u v. above u) x
           ∙ sym (entry ld h (i₀ + r - ld) (j₀ + c + 1) (a + q) x hr o))
           (lt-or-ge (i₀ + r) ld)
+
+  -- the same of a part alone: the elements before it, and then the part as it came back, are an entry map of the whole
+  pub lent-block : (d : A) (ld i₀ j₀ a : ℕ) (g h : EntryMap A) (l ys : List A) → 0 < ld → i₀ ≤ ld → a ≡ j₀ * ld + i₀ → a ≤ length l
+      → ys ≡ update (entries ld g) (drop a l)
+      → ((i j : ℕ) → ld ≤ i₀ + i → (x : A) → g i j x ≡ x)
+      → ((i j : ℕ) → i < ld → j * ld + i < length l → (x : A) → shifted i₀ j₀ g i j x ≡ h i j x)
+      → take a l ++ ys ≡ update (entries ld h) l
+  lent-block d ld i₀ j₀ a g h l ys pos il ea al ey wide all =
+      sym (put-tail a l ys al)
+      ∙ block-then d ld i₀ j₀ a (λ i j x. x) g h l l ys pos il ea al (sym (entries-keep ld (λ i j x. x) l (λ i j x. refl)))
+        (ey ∙ ap (update (entries ld g)) (sym (tail a l))) wide all

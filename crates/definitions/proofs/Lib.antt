@@ -5,6 +5,7 @@ pub mod Table
 pub mod Scalars
 pub mod InPlace
 pub mod Strips
+pub mod Parts
 pub mod Answers
 pub mod CheckLaws
 pub mod MachineLaws
