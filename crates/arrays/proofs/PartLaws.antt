@@ -153,4 +153,4 @@ module _ {A : Type 0} where
   lent-block d ld i₀ j₀ a g h l ys pos il ea al ey wide all =
       sym (put-tail a l ys al)
       ∙ block-then d ld i₀ j₀ a (λ i j x. x) g h l l ys pos il ea al (sym (entries-keep ld (λ i j x. x) l (λ i j x. refl)))
-        (ey ∙ ap (update (entries ld g)) (sym (tail a l))) wide all
+      (ey ∙ ap (update (entries ld g)) (sym (tail a l))) wide all

@@ -10,7 +10,8 @@ use Rattle.arrays.specs.Choice.{if_then_else_}
 use Rattle.arrays.specs.Fold.{among, solved}
 use Rattle.arrays.proofs.Tests.{if-both}
 use Rattle.arrays.proofs.FoldLaws.{fold-same, solved-same}
-use Rattle.definitions.specs.Number.{0f, isZero, factor}
+use Rattle.floats.specs.Operations.{0f}
+use Rattle.definitions.specs.Number.{isZero, factor}
 use Rattle.definitions.specs.Storage.{inside}
 use Rattle.definitions.specs.Call.{bySide, order}
 use Rattle.definitions.specs.Element.{Floats, _times_, term, productTerm, triangular, triangle, trmm, solvesUp, turn, solveNext, trsm}

@@ -36,13 +36,13 @@ module _ (c : Call) (a b : List Float) (from to : ℕ) where
       lent-block nan (ldOutput c) i₀ j₀ x (only mask g) (only (writes c from to) val) l ys pos il ex xl ey
       (λ i j w y. only-out mask g i j y (wide i j w))
       (λ i j hi _ y.
-        ⊎-elim
-        (λ q. shifted-row-out i₀ j₀ (only mask g) i j y q ∙ sym (only-out (writes c from to) val i j y (above i j q)))
-        (λ q. ⊎-elim
-          (λ r. shifted-column-out i₀ j₀ (only mask g) i j y r ∙ sym (only-out (writes c from to) val i j y (left-of i j r)))
-          (λ r. inside i j (i - i₀) (j - j₀) y hi (omega arith) (omega arith))
-          (lt-or-ge j j₀))
-        (lt-or-ge i i₀))
+      ⊎-elim
+      (λ q. shifted-row-out i₀ j₀ (only mask g) i j y q ∙ sym (only-out (writes c from to) val i j y (above i j q)))
+      (λ q. ⊎-elim
+      (λ r. shifted-column-out i₀ j₀ (only mask g) i j y r ∙ sym (only-out (writes c from to) val i j y (left-of i j r)))
+      (λ r. inside i j (i - i₀) (j - j₀) y hi (omega arith) (omega arith))
+      (lt-or-ge j j₀))
+      (lt-or-ge i i₀))
     where
       val : EntryMap Float
       val = value (c .routine) c a (arrayB c b l)
@@ -51,8 +51,8 @@ module _ (c : Call) (a b : List Float) (from to : ℕ) where
       inside i j r q y hi er eq =
           ap₂ (λ (i j : ℕ). shifted i₀ j₀ (only mask g) i j y) er eq ∙ shifted-in i₀ j₀ (only mask g) r q y
           ∙ by-test (mask r q)
-            (λ m. only-in mask g r q y m ∙ values r q m y ∙ sym (only-in (writes c from to) val (i₀ + r) (j₀ + q) y (sym (same r q (omega arith)) ∙ m)))
-            (λ m. only-out mask g r q y m ∙ sym (only-out (writes c from to) val (i₀ + r) (j₀ + q) y (sym (same r q (omega arith)) ∙ m)))
+          (λ m. only-in mask g r q y m ∙ values r q m y ∙ sym (only-in (writes c from to) val (i₀ + r) (j₀ + q) y (sym (same r q (omega arith)) ∙ m)))
+          (λ m. only-out mask g r q y m ∙ sym (only-out (writes c from to) val (i₀ + r) (j₀ + q) y (sym (same r q (omega arith)) ∙ m)))
           ∙ sym (ap₂ (λ (i j : ℕ). only (writes c from to) val i j y) er eq)
 
 -- ---- strips that cut columns
@@ -71,10 +71,10 @@ module _ (c : Call) (a b : List Float) (from cols : ℕ) (cuts : cutsRows (c .ro
   columns-written i j =
       rw (column-cut i (from + j))
       (⊎-elim
-        (λ (h : j < cols).
-          rw (lt-ltb j cols h, lt-ltb (from + j) (c .n) (omega arith), lt-ltb (from + j) (from + cols) (omega arith), le-leb from (from + j) (omega arith)) (sym (and-true _)))
-        (λ h. rw (le-ltb j cols h, le-ltb (from + j) (from + cols) (omega arith), and-false, and-false, and-false) refl)
-        (lt-or-ge j cols))
+      (λ (h : j < cols).
+      rw (lt-ltb j cols h, lt-ltb (from + j) (c .n) (omega arith), lt-ltb (from + j) (from + cols) (omega arith), le-leb from (from + j) (omega arith)) (sym (and-true _)))
+      (λ h. rw (le-ltb j cols h, le-ltb (from + j) (from + cols) (omega arith), and-false, and-false, and-false) refl)
+      (lt-or-ge j cols))
 
   not-from : (i j : ℕ) → j < from → writes c from (from + cols) i j ≡ false
   unfolding writes
@@ -93,9 +93,9 @@ module _ (c : Call) (a b : List Float) (from cols : ℕ) (cuts : cutsRows (c .ro
       (λ i j w. absurd (let f : ⊥ = omega arith in f))
       not-from
       (λ i j m y.
-        let k = and-left (box (c .m) cols i j) _ m in
-        values i j (ltb-true _ _ (and-left (ltb i (c .m)) _ k)) (ltb-true _ _ (and-right (ltb i (c .m)) _ k)) y
-        ∙ ap (λ (n : ℕ). value (c .routine) c a (arrayB c b l) n (from + j) y) (sym (zero-add i)))
+      let k = and-left (box (c .m) cols i j) _ m in
+      values i j (ltb-true _ _ (and-left (ltb i (c .m)) _ k)) (ltb-true _ _ (and-right (ltb i (c .m)) _ k)) y
+      ∙ ap (λ (n : ℕ). value (c .routine) c a (arrayB c b l) n (from + j) y) (sym (zero-add i)))
 
   -- the same for a routine that writes all of the strip's rectangle
   pub strip-of-box : (x : ℕ) (g : EntryMap Float) (l ys : List Float) → ((i j : ℕ) → inTriangle (c .routine) (c .uplo) i j ≡ true)
@@ -123,10 +123,10 @@ module _ (c : Call) (a b : List Float) (from rows : ℕ) (cuts : cutsRows (c .ro
   rows-written i j =
       rw (row-cut (from + i) j, all (from + i) j)
       (⊎-elim
-        (λ (h : i < rows).
-          rw (lt-ltb i rows h, lt-ltb (from + i) (c .m) (omega arith), lt-ltb (from + i) (from + rows) (omega arith), le-leb from (from + i) (omega arith), and-true, and-true) refl)
-        (λ h. rw (le-ltb i rows h, le-ltb (from + i) (from + rows) (omega arith), and-false, and-false) refl)
-        (lt-or-ge i rows))
+      (λ (h : i < rows).
+      rw (lt-ltb i rows h, lt-ltb (from + i) (c .m) (omega arith), lt-ltb (from + i) (from + rows) (omega arith), le-leb from (from + i) (omega arith), and-true, and-true) refl)
+      (λ h. rw (le-ltb i rows h, le-ltb (from + i) (from + rows) (omega arith), and-false, and-false) refl)
+      (lt-or-ge i rows))
 
   not-above : (i j : ℕ) → i < from → writes c from (from + rows) i j ≡ false
   unfolding writes
@@ -145,5 +145,5 @@ module _ (c : Call) (a b : List Float) (from rows : ℕ) (cuts : cutsRows (c .ro
       not-above
       (λ i j w. absurd (let f : ⊥ = omega arith in f))
       (λ i j m y.
-        values i j (ltb-true _ _ (and-left (ltb i rows) _ m)) (ltb-true _ _ (and-right (ltb i rows) _ m)) y
-        ∙ ap (λ (n : ℕ). value (c .routine) c a (arrayB c b l) (from + i) n y) (sym (zero-add j)))
+      values i j (ltb-true _ _ (and-left (ltb i rows) _ m)) (ltb-true _ _ (and-right (ltb i rows) _ m)) y
+      ∙ ap (λ (n : ℕ). value (c .routine) c a (arrayB c b l) (from + i) n y) (sym (zero-add j)))

@@ -13,7 +13,8 @@ use lib.Ieee.Fits.{down-pos}
 use lib.Pow.{pow-lt, pow-add}
 use borrow.Author.Tests.{eqb-true, ne-eqb}
 use Rattle.arrays.proofs.Tests.{and-left, and-right, if-true, if-false, by-test}
-use Rattle.definitions.specs.Number.{0f, 1f, scalar, isZero, factor}
+use Rattle.floats.specs.Operations.{0f, 1f}
+use Rattle.definitions.specs.Number.{scalar, isZero, factor}
 use Rattle.definitions.specs.declared.Scalar.the-variants.{Zero, One}
 
 -- the sign of a number that equals 1

@@ -10,7 +10,8 @@ use lib.ListN.{replicate}
 use lib.Ieee.{Float, nan, inf, binary64, add, mul, div, neg, eq, ofInt}
 use Rattle.arrays.specs.Update.{updateFrom, entries, only}
 use Rattle.arrays.specs.Fold.{fold, among, solved}
-use Rattle.definitions.specs.Number.{_⊘_, 0f, 1f, scalar, factor, start}
+use Rattle.floats.specs.Operations.{_⊘_, 0f, 1f}
+use Rattle.definitions.specs.Number.{scalar, factor, start}
 use Rattle.definitions.specs.Storage.{stored, transposed, op, inside, opTriangle, mirrored, withDiagonal, needed}
 use Rattle.definitions.specs.Call as Call
 use Rattle.definitions.specs.Element as Element

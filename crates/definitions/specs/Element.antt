@@ -8,7 +8,8 @@ use lib.Ieee.{Float, nan}
 use Rattle.arrays.specs.Choice.{if_then_else_}
 use Rattle.arrays.specs.Update.{EntryMap, update, entries, only}
 use Rattle.arrays.specs.Fold.{fold, among, solved}
-use Rattle.definitions.specs.Number.{_⊕_, _⊗_, _⊘_, 0f, 1f, −1f, isZero, factor, start}
+use Rattle.floats.specs.Operations.{_⊕_, _⊗_, _⊘_, 0f, 1f, −1f}
+use Rattle.definitions.specs.Number.{isZero, factor, start}
 use Rattle.definitions.specs.Storage.{Matrix, stored, transposed, op, inside, opTriangle, mirrored, withDiagonal}
 use Rattle.definitions.specs.Call.{bySide, inPlace, order, ldOutput, extent, writes}
 use Rattle.definitions.specs.declared.Routine.{Routine}

@@ -1,33 +1,11 @@
--- The f64 operations, each rounded once, and the three cases of a scalar.
+-- The three cases of a scalar, and the start of an element. (The f64 operations are those of the crate floats.)
 use mathlib.Core.Bool.{Bool, true, false}
-use lib.IntN.{pos}
 use lib.Ieee as Ieee
-use lib.Ieee.{Float, fin, binary64}
+use lib.Ieee.{Float}
+use Rattle.floats.specs.Operations.{_⊗_, 0f, 1f}
 use Rattle.arrays.specs.Choice.{if_then_else_}
 use Rattle.definitions.specs.declared.Scalar.{Scalar}
 use Rattle.definitions.specs.declared.Scalar.the-variants.{Zero, One, Other}
-
--- "Every operation is one f64 operation, rounded once." ("Bit for bit" takes two NaNs as equal: the logic's floats have one.)
-infixl 60 _⊕_
-infixl 70 _⊗_ _⊘_
-abbrev pub _⊕_ : Float → Float → Float
-x ⊕ y = Ieee.add binary64 x y
-
-abbrev pub _⊗_ : Float → Float → Float
-x ⊗ y = Ieee.mul binary64 x y
-
-abbrev pub _⊘_ : Float → Float → Float
-x ⊘ y = Ieee.div binary64 x y
-
--- +0.0, 1.0 and -1.0
-abbrev pub 0f : Float
-0f = fin false 0 (pos 0)
-
-abbrev pub 1f : Float
-1f = fin false 1 (pos 0)
-
-abbrev pub −1f : Float
-−1f = fin true 1 (pos 0)
 
 -- "Zero, one and any other value, NaN included, are three cases of scalar; −0.0 is zero."
 unfoldable pub scalar : Float → Scalar

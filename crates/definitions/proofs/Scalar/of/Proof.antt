@@ -3,7 +3,8 @@
 use mathlib.Core.Path.{_≡_}
 use mathlib.Core.Bool.{true, false}
 use lib.Ieee.{eq, ofBits}
-use Rattle.definitions.specs.Number.{0f, 1f, scalar}
+use Rattle.floats.specs.Operations.{0f, 1f}
+use Rattle.definitions.specs.Number.{scalar}
 use Rattle.definitions.proofs.Scalar.of.Statement.{statement}
 use Rattle.definitions.proofs.Scalar.of.Tie as tie
 
