@@ -2,15 +2,16 @@
 -- and a region that grows as a column, some rows or a block are lent and come back.
 -- Assumes nothing.
 use mathlib.Core.Path.{_≡_, refl, sym, ap, subst, _∙_}
-use mathlib.Core.Logic.{⊎-elim}
+use mathlib.Core.Logic.{⊎-elim, _⊎_, inl, inr}
 use mathlib.Core.List.{List}
-use Prim.Native.Nat.{ℕ, _+_, _-_, _*_, _/_, _%_, _<_, _≤_}
-use native.Mathlib.Nat.{le-div-iff-mul-le, one-mul}
+use Prim.Native.Nat.{ℕ, zero, suc, _+_, _-_, _*_, _/_, _%_, _<_, _≤_}
+use native.Mathlib.Nat.{div-add-mod', le-div-iff-mul-le, one-mul}
 use native.Mathlib.Omega.{arith}
-use lib.ListN.{length, take, drop}
+use lib.ListN.{length, getD, take, drop, set, length-set}
+use lib.Seq.{getD-set-same, getD-set-other}
 use borrow.Rule.Slice.PartMut.{putMid}
 use Rattle.arrays.specs.Update.{EntryMap, update, below, entries, only, box, shifted, region}
-use Rattle.arrays.proofs.UpdateLaws.{lt-or-ge, update-same, below-in, below-out}
+use Rattle.arrays.proofs.UpdateLaws.{lt-or-ge, length-update, at-update, is-update, update-same, below-in, below-out}
 use Rattle.arrays.proofs.EntryLaws.{entry, entries-then, entries-same, entries-keep, only-in, only-out, box-in, box-row-out, box-column-out, shifted-in, shifted-row-out, shifted-column-out}
 use Rattle.arrays.proofs.PartLaws.{block-then}
 
@@ -87,6 +88,13 @@ module _ {A : Type 0} (ld rows cols : ℕ) where
       (λ r c. ap (g i j) (boxed-in rows cols f i j x r c) ∙ e i j r c x ∙ sym (boxed-in rows cols h i j x r c))
       (λ r. boxed-row-out rows cols f i j x r ∙ sym (boxed-row-out rows cols h i j x r))
       (λ c. boxed-column-out rows cols f i j x c ∙ sym (boxed-column-out rows cols h i j x c)))
+
+-- a region of no rows, or of no columns
+pub region-no-rows : {A : Type 0} (ld cols : ℕ) (f : EntryMap A) (l : List A) → l ≡ update (region ld 0 cols f) l
+region-no-rows ld cols f l = region-keep ld 0 cols f l (λ i j r c x. let z : ⊥ = omega arith in absurd z)
+
+pub region-no-columns : {A : Type 0} (ld rows : ℕ) (f : EntryMap A) (l : List A) → l ≡ update (region ld rows 0 f) l
+region-no-columns ld rows f l = region-keep ld rows 0 f l (λ i j r c x. let z : ⊥ = omega arith in absurd z)
 
 module _ {A : Type 0} (d : A) (ld : ℕ) (pos : 0 < ld) where
   -- a region of one column is the elements below `rows`
@@ -177,6 +185,108 @@ module _ {A : Type 0} (d : A) (ld : ℕ) (pos : 0 < ld) where
 
       H : EntryMap A
       H = only (box rows (j + 1)) f
+
+  -- a turn of a loop that goes down two columns at a time: l is the array as the loop began, m as it is now
+  pub two-more : (i : ℕ) (f : EntryMap A) (l m : List A) → i < ld → ld + i < length l → m ≡ update (region ld i 2 f) l
+      → set (set m i (f i 0 (getD m i d))) (ld + i) (f i 1 (getD m (ld + i) d)) ≡ update (region ld (i + 1) 2 f) l
+  unfolding region entries
+  two-more i f l m il b e =
+      is-update d (region ld (i + 1) 2 f) l (set (set m i v) (ld + i) w) (length-set (set m i v) (ld + i) w ∙ length-set m i v ∙ ml)
+      (λ p h.
+      ⊎-elim
+      (λ (z : i ≡ p). subst (λ (k : ℕ). getD (set (set m i v) (ld + i) w) k d ≡ region ld (i + 1) 2 f k (getD l k d)) z first)
+      (λ z. ⊎-elim
+      (λ (y : ld + i ≡ p). subst (λ (k : ℕ). getD (set (set m i v) (ld + i) w) k d ≡ region ld (i + 1) 2 f k (getD l k d)) y second)
+      (λ y. other p h z y)
+      (same-or-not (ld + i) p))
+      (same-or-not i p))
+    where
+      v : A
+      v = f i 0 (getD m i d)
+
+      w : A
+      w = f i 1 (getD m (ld + i) d)
+
+      same-or-not : (x y : ℕ) → (x ≡ y) ⊎ (x ≡ y → ⊥)
+      same-or-not x y =
+          ⊎-elim (λ (h : x < y). inr (λ z. omega arith)) (λ h. ⊎-elim (λ (k : y < x). inr (λ z. omega arith)) (λ k. inl (omega arith)) (lt-or-ge y x)) (lt-or-ge x y)
+
+      ml : length m ≡ length l
+      ml = ap length e ∙ length-update (region ld i 2 f) l
+
+      old : (p : ℕ) → p < length l → getD m p d ≡ region ld i 2 f p (getD l p d)
+      old p h = ap (λ (k : List A). getD k p d) e ∙ at-update (region ld i 2 f) l p d h
+
+      -- row i, in column j, was not done before and is done now
+      before : (j p : ℕ) → p ≡ j * ld + i → p < length l → getD m p d ≡ getD l p d
+      before j p ep h =
+          old p h ∙ entry ld (only (box i 2) f) i j p (getD l p d) il ep ∙ boxed-row-out i 2 f i j (getD l p d) (omega arith)
+
+      now-done : (j p : ℕ) → p ≡ j * ld + i → j < 2 → (x : A) → region ld (i + 1) 2 f p x ≡ f i j x
+      now-done j p ep h x = entry ld (only (box (i + 1) 2) f) i j p x il ep ∙ boxed-in (i + 1) 2 f i j x (omega arith) h
+
+      first : getD (set (set m i v) (ld + i) w) i d ≡ region ld (i + 1) 2 f i (getD l i d)
+      first =
+          getD-set-other (set m i v) (ld + i) i w d (λ z. omega arith)
+          ∙ getD-set-same m i v d (omega (arith, ml))
+          ∙ ap (f i 0) (before 0 i (omega arith) (omega arith))
+          ∙ sym (now-done 0 i (omega arith) (omega arith) (getD l i d))
+
+      second : getD (set (set m i v) (ld + i) w) (ld + i) d ≡ region ld (i + 1) 2 f (ld + i) (getD l (ld + i) d)
+      second =
+          getD-set-same (set m i v) (ld + i) w d (omega (arith, ml, length-set m i v))
+          ∙ ap (f i 1) (before 1 (ld + i) (omega arith) b)
+          ∙ sym (now-done 1 (ld + i) (omega arith) (omega arith) (getD l (ld + i) d))
+
+      other : (p : ℕ) → p < length l → (i ≡ p → ⊥) → (ld + i ≡ p → ⊥) → getD (set (set m i v) (ld + i) w) p d ≡ region ld (i + 1) 2 f p (getD l p d)
+      other p h n1 n2 =
+          let r : ℕ = p % ld in
+          let c : ℕ = p / ld in
+          let ep : p ≡ c * ld + r = sym (div-add-mod' p ld) in
+          getD-set-other (set m i v) (ld + i) p w d (λ z. n2 (sym z)) ∙ getD-set-other m i p v d (λ z. n1 (sym z)) ∙ old p h
+          ∙ boxed i 2 f r c (getD l p d) (region ld (i + 1) 2 f p (getD l p d))
+          (λ hr hc. sym (boxed-in (i + 1) 2 f r c (getD l p d) (omega arith) hc))
+          (λ hr. ⊎-elim
+          (λ (hc : c < 2). sym (boxed-row-out (i + 1) 2 f r c (getD l p d) (later r c p ep hr hc n1 n2)))
+          (λ hc. sym (boxed-column-out (i + 1) 2 f r c (getD l p d) hc))
+          (lt-or-ge c 2))
+          (λ hc. sym (boxed-column-out (i + 1) 2 f r c (getD l p d) hc))
+        where
+          later : (r c p : ℕ) → p ≡ c * ld + r → i ≤ r → c < 2 → (i ≡ p → ⊥) → (ld + i ≡ p → ⊥) → i + 1 ≤ r
+          later r zero p ep hr hc n1 n2 = ⊎-elim (λ (k : i < r). omega arith) (λ k. absurd (n1 (omega arith))) (lt-or-ge i r)
+          later r (suc zero) p ep hr hc n1 n2 = ⊎-elim (λ (k : i < r). omega arith) (λ k. absurd (n2 (omega arith))) (lt-or-ge i r)
+          later r (suc (suc c)) p ep hr hc n1 n2 = omega arith
+
+  -- the next n columns: those before them are done
+  pub region-columns : (rows j n : ℕ) (f : EntryMap A) (l m ys : List A) → rows ≤ ld → j * ld ≤ length l
+      → m ≡ update (region ld rows j f) l
+      → ys ≡ update (region ld rows n (λ i c x. f i (j + c) x)) (take (length m - j * ld) (drop (j * ld) m))
+      → putMid (j * ld) (length m - j * ld) m ys ≡ update (region ld rows (j + n) f) l
+  unfolding region
+  region-columns rows j n f l m ys rl jl em ey =
+      block-then d ld 0 j (j * ld) F (only (box rows n) (λ i c x. f i (j + c) x)) H l m ys pos (omega arith) (omega arith) jl em ey
+      (λ i c w x. boxed-row-out rows n (λ i c x. f i (j + c) x) i c x (omega arith))
+      (λ i c il b x.
+      blocked 0 j rows n (λ i c x. f i (j + c) x) i c (F i c x) (H i c x)
+      (λ r q er ec hr hq.
+      let e : i ≡ r = omega arith in
+      ap (λ (y : A). f r (j + q) y) (boxed-column-out rows j f i c x (omega arith))
+      ∙ sym (boxed-in rows (j + n) f i c x (omega arith) (omega arith) ∙ ap (λ (k : ℕ). f k c x) e ∙ ap (λ (k : ℕ). f r k x) ec))
+      (λ out.
+      boxed rows j f i c x (H i c x)
+      (λ r q. sym (boxed-in rows (j + n) f i c x r (omega arith)))
+      (λ r. sym (boxed-row-out rows (j + n) f i c x r))
+      (λ q. ⊎-elim
+      (λ (r : i < rows).
+      sym (boxed-column-out rows (j + n) f i c x (⊎-elim (λ (u : c < j + n). absurd (out (omega arith) (omega arith) q (omega arith))) (λ u. u) (lt-or-ge c (j + n)))))
+      (λ r. sym (boxed-row-out rows (j + n) f i c x r))
+      (lt-or-ge i rows))))
+    where
+      F : EntryMap A
+      F = only (box rows j) f
+
+      H : EntryMap A
+      H = only (box rows (j + n)) f
 
   -- the next n rows: those before them are done
   pub region-rows : (i n cols : ℕ) (f : EntryMap A) (l m ys : List A) → i + n ≤ ld → i ≤ length l

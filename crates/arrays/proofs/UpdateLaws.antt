@@ -77,8 +77,12 @@ module _ {A : Type 0} where
   unfolding below
   below-out n f p x h = rw (le-ltb p n h)
 
+  pub below-keep : (n : ℕ) (f : ℕ → A → A) (l : List A) → ((p : ℕ) → p < n → (x : A) → f p x ≡ x) → l ≡ update (below n f) l
+  below-keep n f l h =
+      sym (update-keep (below n f) l (λ p b x. ⊎-elim (λ q. below-in n f p x q ∙ h p q x) (λ q. below-out n f p x q) (lt-or-ge p n)))
+
   pub below-none : (f : ℕ → A → A) (l : List A) → l ≡ update (below 0 f) l
-  below-none f l = sym (update-keep (below 0 f) l (λ p b x. below-out 0 f p x (omega arith)))
+  below-none f l = below-keep 0 f l (λ p h x. let z : ⊥ = omega arith in absurd z)
 
   -- a turn of a loop that updates from the front: l is the array as the loop began, m as it is now
   pub below-more : (d : A) (f : ℕ → A → A) (l m : List A) (i : ℕ) → m ≡ update (below i f) l → i < length l

@@ -8,6 +8,7 @@ pub mod Strips
 pub mod Parts
 pub mod Answers
 pub mod CheckLaws
+pub mod Fits
 pub mod MachineLaws
 pub mod Records
 pub mod Runs

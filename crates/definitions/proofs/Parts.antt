@@ -1,17 +1,16 @@
 -- A strip as a routine makes it: the part of the output that starts at the strip's first column, or row, is lent and comes back.
 -- Assumes nothing.
-use Prim.Native.Nat.{ℕ, zero, suc, _+_, _-_, _*_, _≤_, _<_}
-use mathlib.Core.Path.{_≡_, refl, sym, ap, ap₂, subst, _∙_}
-use mathlib.Core.Bool.{Bool, true, false, _&&_, and-true, and-false}
+use Prim.Native.Nat.{ℕ, _+_, _-_, _*_, _≤_, _<_}
+use mathlib.Core.Path.{_≡_, refl, sym, ap, ap₂, _∙_}
+use mathlib.Core.Bool.{true, false, _&&_, and-true, and-false}
 use mathlib.Core.Logic.{⊎-elim}
 use mathlib.Core.List.{List, _++_}
 use native.Mathlib.Nat.{zero-add}
 use native.Mathlib.Omega.{arith}
-use lib.Dec.{leb, ltb}
+use lib.Dec.{ltb}
 use lib.ListN.{length, take, drop}
 use lib.Ieee.{Float, nan}
 use borrow.Author.Tests.{ltb-true, lt-ltb, le-ltb, le-leb, lt-leb}
-use Rattle.arrays.specs.Choice.{if_then_else_}
 use Rattle.arrays.specs.Update.{EntryMap, Mask, update, entries, only, box, region, shifted}
 use Rattle.arrays.proofs.Tests.{and-left, and-right, by-test}
 use Rattle.arrays.proofs.UpdateLaws.{lt-or-ge}

@@ -1,9 +1,10 @@
 -- The value of each element: the fold of its terms, which document 01 calls the ladder of one element. And what a strip, and a whole call,
 -- leaves in the output's array.
-use Prim.Native.Nat.{ℕ, _-_}
+use Prim.Native.Nat.{ℕ, _-_, _≤_}
 use mathlib.Core.Bool.{Bool, true, false}
-use mathlib.Core.List.{List, [], _∷_}
-use lib.ListN.{getD}
+use mathlib.Core.Path.{_≡_}
+use mathlib.Core.List.{List, [], _∷_, _++_}
+use lib.ListN.{getD, length, take, drop}
 use lib.Ieee.{Float, nan}
 use Rattle.arrays.specs.Choice.{if_then_else_}
 use Rattle.arrays.specs.Update.{EntryMap, update, entries, only}
@@ -154,3 +155,8 @@ strip c a b from to out = update (entries (ldOutput c) (only (writes c from to) 
 -- After the whole call.
 unfoldable pub result : Call → List Float → List Float → List Float → List Float
 result c a b out = strip c a b 0 (extent c) out
+
+-- "One strip update is handed the part of C that starts at the strip's first column." It is handed `before`, the part of the output's array l from element x on, and
+-- leaves `after` there.
+abbrev pub StripOf : Call → List Float → List Float → ℕ → ℕ → ℕ → List Float → List Float → Type 0
+StripOf c a b from to x before after = (l : List Float) → x ≤ length l → before ≡ drop x l → take x l ++ after ≡ strip c a b from to l

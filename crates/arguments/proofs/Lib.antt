@@ -1,0 +1,3 @@
+pub mod Signed
+pub mod Room
+pub mod Refusals
