@@ -86,6 +86,26 @@ module _ {A : Type 0} where
       go true b c p q = rw (p refl, q)
       go false b c p q = rw q
 
+  -- two masks that agree at an entry
+  pub only-mask : (first second : Mask) (f : EntryMap A) (i j : ℕ) (x : A) → first i j ≡ second i j → only first f i j x ≡ only second f i j x
+  unfolding only
+  only-mask first second f i j x h = ap (λ (b : Bool). if b then f i j x else x) h
+
+  -- two entry maps on one mask, one after the other
+  pub only-then : (ld : ℕ) (inside : Mask) (f g h : EntryMap A) (l m r : List A) → 0 < ld
+      → m ≡ update (entries ld (only inside f)) l → r ≡ update (entries ld (only inside g)) m
+      → ((i j : ℕ) → inside i j ≡ true → (x : A) → g i j (f i j x) ≡ h i j x)
+      → r ≡ update (entries ld (only inside h)) l
+  unfolding only
+  only-then ld inside f g h l m r pos em er e =
+      er ∙ ap (update (entries ld (only inside g))) em
+      ∙ entries-then ld l pos (only inside f) (only inside g) (only inside h) (λ i j hi b x. go i j x (inside i j) refl)
+    where
+      go : (i j : ℕ) (x : A) (b : Bool) → inside i j ≡ b
+          → (if b then g i j (if b then f i j x else x) else (if b then f i j x else x)) ≡ (if b then h i j x else x)
+      go i j x true q = e i j q x
+      go i j x false q = refl
+
 -- ---- boxes
 
 pub box-in : (rows cols i j : ℕ) → i < rows → j < cols → box rows cols i j ≡ true

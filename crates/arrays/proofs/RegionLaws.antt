@@ -1,8 +1,9 @@
 -- Laws of a region, the rows below `rows` and the columns below `cols` of an array with leading dimension ld: its entries, two updates in a row,
 -- and a region that grows as a column, some rows or a block are lent and come back.
 -- Assumes nothing.
-use mathlib.Core.Path.{_≡_, refl, sym, ap, subst, _∙_}
-use mathlib.Core.Logic.{⊎-elim, _⊎_, inl, inr}
+use mathlib.Core.Bool.{true, false}
+use mathlib.Core.Path.{_≡_, refl, sym, ap, ap₂, subst, _∙_}
+use mathlib.Core.Logic.{⊎-elim}
 use mathlib.Core.List.{List}
 use Prim.Native.Nat.{ℕ, zero, suc, _+_, _-_, _*_, _/_, _%_, _<_, _≤_}
 use native.Mathlib.Nat.{div-add-mod', le-div-iff-mul-le, one-mul}
@@ -10,9 +11,9 @@ use native.Mathlib.Omega.{arith}
 use lib.ListN.{length, getD, take, drop, set, length-set}
 use lib.Seq.{getD-set-same, getD-set-other}
 use borrow.Rule.Slice.PartMut.{putMid}
-use Rattle.arrays.specs.Update.{EntryMap, update, below, entries, only, box, shifted, region}
-use Rattle.arrays.proofs.UpdateLaws.{lt-or-ge, length-update, at-update, is-update, update-same, below-in, below-out}
-use Rattle.arrays.proofs.EntryLaws.{entry, entries-then, entries-same, entries-keep, only-in, only-out, box-in, box-row-out, box-column-out, shifted-in, shifted-row-out, shifted-column-out}
+use Rattle.arrays.specs.Update.{EntryMap, Mask, update, below, entries, only, box, shifted, region}
+use Rattle.arrays.proofs.UpdateLaws.{lt-or-ge, same-or-not, length-update, at-update, is-update, update-same, below-in, below-out}
+use Rattle.arrays.proofs.EntryLaws.{entry, entries-then, entries-same, entries-keep, only-in, only-out, only-mask, box-in, box-row-out, box-column-out, shifted-in, shifted-row-out, shifted-column-out}
 use Rattle.arrays.proofs.PartLaws.{block-then}
 
 module _ {A : Type 0} (rows cols : ℕ) (f : EntryMap A) (i j : ℕ) (x : A) where
@@ -207,10 +208,6 @@ module _ {A : Type 0} (d : A) (ld : ℕ) (pos : 0 < ld) where
       w : A
       w = f i 1 (getD m (ld + i) d)
 
-      same-or-not : (x y : ℕ) → (x ≡ y) ⊎ (x ≡ y → ⊥)
-      same-or-not x y =
-          ⊎-elim (λ (h : x < y). inr (λ z. omega arith)) (λ h. ⊎-elim (λ (k : y < x). inr (λ z. omega arith)) (λ k. inl (omega arith)) (lt-or-ge y x)) (lt-or-ge x y)
-
       ml : length m ≡ length l
       ml = ap length e ∙ length-update (region ld i 2 f) l
 
@@ -287,6 +284,72 @@ module _ {A : Type 0} (d : A) (ld : ℕ) (pos : 0 < ld) where
 
       H : EntryMap A
       H = only (box rows (j + n)) f
+
+  -- a turn of a loop along the first row: l is the array as the loop began, m as it is now
+  pub row-more : (j : ℕ) (f : EntryMap A) (l m : List A) (v : A) → j * ld < length l → m ≡ update (region ld 1 j f) l → ((x : A) → f 0 j x ≡ v)
+      → set m (j * ld) v ≡ update (region ld 1 (j + 1) f) l
+  unfolding region entries
+  row-more j f l m v b e h =
+      is-update d (region ld 1 (j + 1) f) l (set m (j * ld) v) (length-set m (j * ld) v ∙ ml)
+      (λ p k.
+      ⊎-elim
+      (λ (z : j * ld ≡ p). subst (λ (n : ℕ). getD (set m (j * ld) v) n d ≡ region ld 1 (j + 1) f n (getD l n d)) z here)
+      (λ z. other p k z)
+      (same-or-not (j * ld) p))
+    where
+      ml : length m ≡ length l
+      ml = ap length e ∙ length-update (region ld 1 j f) l
+
+      here : getD (set m (j * ld) v) (j * ld) d ≡ region ld 1 (j + 1) f (j * ld) (getD l (j * ld) d)
+      here =
+          getD-set-same m (j * ld) v d (omega (arith, ml)) ∙ sym (h (getD l (j * ld) d))
+          ∙ sym (entry ld (only (box 1 (j + 1)) f) 0 j (j * ld) (getD l (j * ld) d) pos (omega arith)
+          ∙ boxed-in 1 (j + 1) f 0 j (getD l (j * ld) d) (omega arith) (omega arith))
+
+      other : (p : ℕ) → p < length l → (j * ld ≡ p → ⊥) → getD (set m (j * ld) v) p d ≡ region ld 1 (j + 1) f p (getD l p d)
+      other p k z =
+          let r : ℕ = p % ld in
+          let c : ℕ = p / ld in
+          let ep : p ≡ c * ld + r = sym (div-add-mod' p ld) in
+          getD-set-other m (j * ld) p v d (λ y. z (sym y)) ∙ ap (λ (n : List A). getD n p d) e ∙ at-update (region ld 1 j f) l p d k
+          ∙ boxed 1 j f r c (getD l p d) (region ld 1 (j + 1) f p (getD l p d))
+          (λ hr hc. sym (boxed-in 1 (j + 1) f r c (getD l p d) hr (omega arith)))
+          (λ hr. sym (boxed-row-out 1 (j + 1) f r c (getD l p d) hr))
+          (λ hc. ⊎-elim
+          (λ (hr : r < 1). sym (boxed-column-out 1 (j + 1) f r c (getD l p d) (later r c p ep hr hc z)))
+          (λ hr. sym (boxed-row-out 1 (j + 1) f r c (getD l p d) hr))
+          (lt-or-ge r 1))
+        where
+          later : (r c p : ℕ) → p ≡ c * ld + r → r < 1 → j ≤ c → (j * ld ≡ p → ⊥) → j + 1 ≤ c
+          later r c p ep hr hc z =
+              ⊎-elim
+              (λ (k : j < c). omega arith)
+              (λ k. let q : j ≡ c = omega arith in let y : j * ld ≡ c * ld = ap (λ (n : ℕ). n * ld) q in absurd (z (omega arith)))
+              (lt-or-ge j c)
+
+  -- n rows, from row i₀ on, of column j more: the masks are those before and after
+  pub mask-column : (i₀ j n a : ℕ) (before after : Mask) (f : EntryMap A) (l m ys : List A) → i₀ + n ≤ ld → a ≡ j * ld + i₀ → a ≤ length l
+      → m ≡ update (entries ld (only before f)) l
+      → ys ≡ update (below n (λ i x. f (i₀ + i) j x)) (take (length m - a) (drop a m))
+      → ((i : ℕ) → i < n → before (i₀ + i) j ≡ false)
+      → ((i : ℕ) → i < n → after (i₀ + i) j ≡ true)
+      → ((i c : ℕ) → (i₀ ≤ i → i < i₀ + n → c ≡ j → ⊥) → before i c ≡ after i c)
+      → putMid a (length m - a) m ys ≡ update (entries ld (only after f)) l
+  unfolding region
+  mask-column i₀ j n a before after f l m ys hn ea al em ey old new rest =
+      block-then d ld i₀ j a (only before f) (only (box n 1) g) (only after f) l m ys pos (omega arith) ea al em
+      (ey ∙ one-column n (λ i x. f (i₀ + i) j x) (take (length m - a) (drop a m)) (omega arith))
+      (λ i c w x. boxed-row-out n 1 g i c x (omega arith))
+      (λ i c il b x.
+      blocked i₀ j n 1 g i c (only before f i c x) (only after f i c x)
+      (λ r q er ec hr hq.
+      let k : c ≡ j = omega arith in
+      ap (f (i₀ + r) j) (only-out before f i c x (ap₂ before er k ∙ old r hr))
+      ∙ sym (only-in after f i c x (ap₂ after er k ∙ new r hr) ∙ ap₂ (λ (s t : ℕ). f s t x) er k))
+      (λ out. only-mask before after f i c x (rest i c (λ u v w. out u v (omega arith) (omega arith)))))
+    where
+      g : EntryMap A
+      g i c x = f (i₀ + i) j x
 
   -- the next n rows: those before them are done
   pub region-rows : (i n cols : ℕ) (f : EntryMap A) (l m ys : List A) → i + n ≤ ld → i ≤ length l

@@ -16,6 +16,13 @@ lt-or-ge m zero = inr (omega arith)
 lt-or-ge zero (suc n) = inl (omega arith)
 lt-or-ge (suc m) (suc n) = ⊎-elim (λ h. inl (omega arith)) (λ h. inr (omega arith)) (lt-or-ge m n)
 
+pub same-or-not : (m n : ℕ) → (m ≡ n) ⊎ (m ≡ n → ⊥)
+same-or-not m n =
+    ⊎-elim
+    (λ (h : m < n). inr (λ z. omega arith))
+    (λ h. ⊎-elim (λ (k : n < m). inr (λ z. omega arith)) (λ k. inl (omega arith)) (lt-or-ge n m))
+    (lt-or-ge m n)
+
 module _ {A : Type 0} where
   length-from : (k : ℕ) (f : ℕ → A → A) (l : List A) → length (updateFrom k f l) ≡ length l
   unfolding updateFrom

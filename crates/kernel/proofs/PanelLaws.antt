@@ -1,0 +1,107 @@
+-- Laws of a product by panels: what the packed buffers hold, a block of rows more, a panel of terms more.
+-- Assumes nothing.
+use mathlib.Core.Bool.{Bool, true, false}
+use mathlib.Core.Path.{_≡_, refl, ap, ap₂, _∙_}
+use mathlib.Core.List.{List}
+use Prim.Native.Nat.{ℕ, _+_, _-_, _*_, _<_, _≤_}
+use native.Mathlib.Omega.{arith}
+use lib.ListN.{length, take, drop}
+use lib.Ieee.{Float, nan}
+use borrow.Rule.Slice.PartMut.{putMid}
+use Rattle.arrays.specs.Update.{update, region}
+use Rattle.arrays.proofs.UpdateLaws.{at-update}
+use Rattle.arrays.proofs.RegionLaws.{region-at, region-keep, region-same, region-then, region-rows}
+use Rattle.floats.specs.Operations.{_⊗_}
+use Rattle.kernel.specs.Product.{at, packed, halfPacked}
+use Rattle.kernel.specs.Factor.{Indices, Matrix, entryOf, turn, along, fromRow, fromColumn, partly}
+use Rattle.kernel.specs.declared.Form.{Form}
+use Rattle.kernel.proofs.FactorLaws.{along-up, turn-up, turn-down}
+use Rattle.kernel.proofs.TermLaws.{accumulate-none, accumulate-same, accumulate-split}
+
+-- what a buffer holds after packing: line x, element y
+pub held : (ny nx : ℕ) (M : Matrix) (d₀ d : List Float) (y x : ℕ) → ny ≤ 64 → nx * 64 ≤ length d₀ → d ≡ update (region 64 ny nx (λ y x _. M y x)) d₀
+    → y < ny → x < nx → at d (x * 64 + y) ≡ M y x
+held ny nx M d₀ d y x hn hl e hy hx =
+    ap (λ (l : List Float). at l (x * 64 + y)) e ∙ at-update _ d₀ (x * 64 + y) nan (omega arith)
+    ∙ region-at 64 ny nx (λ y x _. M y x) y x _ (omega arith) hy hx
+
+-- a block of h rows more: it is packed in u
+pub rows-more : (ld i h cols n : ℕ) (M L : Matrix) (u₀ u t l m ys : List Float)
+    → 0 < ld → i + h ≤ ld → i ≤ length l → h ≤ 64 → n * 64 ≤ length u₀
+    → u ≡ update (region 64 h n (λ y x _. M y x)) u₀
+    → ((y x : ℕ) → M y x ≡ L (i + y) x)
+    → m ≡ update (region ld i cols (halfPacked n t L)) l
+    → ys ≡ update (region ld h cols (packed n u t)) (take (length m - i) (drop i m))
+    → putMid i (length m - i) m ys ≡ update (region ld (i + h) cols (halfPacked n t L)) l
+unfolding packed halfPacked
+rows-more ld i h cols n M L u₀ u t l m ys pos il ll hh hu eu el em ey =
+    region-rows nan ld pos i h cols (halfPacked n t L) l m ys il ll em
+    (ey ∙ region-same ld h cols (packed n u t) (λ r j e. halfPacked n t L (i + r) j e) (take (length m - i) (drop i m)) pos
+    (λ r j hr hj e. accumulate-same _ _ _ _ n e (λ q b. refl) (λ q b. held h n M u₀ u r q hh hu eu hr b ∙ el r q)))
+
+-- ---- a panel that begins with the l-th of k terms
+
+pub turn-below : (down : Bool) (k q : ℕ) → q < k → turn down k q < k
+unfolding turn
+turn-below false k q h = h
+turn-below true k q h = omega arith
+
+-- its q-th term
+pub turn-along : (down : Bool) (k l q : ℕ) {l₀ : ℕ} → l₀ ≡ turn down k l → along down l₀ q ≡ turn down k (l + q)
+unfolding along turn
+turn-along false k l q e = ap (λ (x : ℕ). x + q) e
+turn-along true k l q e = omega (arith, e)
+
+-- its terms are numbers of the machine
+pub panel-indices : (down : Bool) (k l n : ℕ) {l₀ : ℕ} → k < 18446744073709551616 → l + n ≤ k → l < k → l₀ ≡ turn down k l → Indices down l₀ n
+panel-indices down k l n hk h b e =
+    record { up = λ d. omega (arith, turn-up k l d, e); back = λ d. omega (arith, turn-down k l d, e) }
+
+module _ (alpha : Float) (A B : Matrix) (down : Bool) (k : ℕ) (ld rows cols : ℕ) (c₀ : List Float) where
+  pub partly-none : c₀ ≡ update (region ld rows cols (partly alpha A B down k 0)) c₀
+  unfolding partly
+  partly-none = region-keep ld rows cols (partly alpha A B down k 0) c₀ (λ i j hi hj e. accumulate-none _ _ e)
+
+  -- a panel of n terms more: its right block is packed in t, and L has the left factor's terms in their order
+  pub panel-more : 0 < ld → (l n : ℕ) (t : List Float) (L : Matrix) (m r : List Float)
+      → m ≡ update (region ld rows cols (partly alpha A B down k l)) c₀
+      → r ≡ update (region ld rows cols (halfPacked n t L)) m
+      → ((q j : ℕ) → q < n → j < cols → at t (j * 64 + q) ≡ alpha ⊗ B (turn down k (l + q)) j)
+      → ((i q : ℕ) → L i q ≡ A i (turn down k (l + q)))
+      → r ≡ update (region ld rows cols (partly alpha A B down k (l + n))) c₀
+  unfolding partly halfPacked
+  panel-more pos l n t L m r em er et el =
+      region-then ld rows cols (partly alpha A B down k l) (halfPacked n t L) (partly alpha A B down k (l + n)) c₀ m r pos em er
+      (λ i j hi hj e.
+      accumulate-same _ _ _ _ n _ (λ q b. et q j b hj) (λ q b. el i q)
+      ∙ accumulate-split (λ q. alpha ⊗ B (turn down k q) j) (λ q. A i (turn down k q)) l n e)
+
+-- the right block as it is packed and then scaled
+pub scaled : (alpha : Float) (n cols : ℕ) (M : Matrix) (t₀ t₁ t : List Float)
+    → t₁ ≡ update (region 64 n cols (λ q j _. M q j)) t₀ → t ≡ update (region 64 n cols (λ q j x. alpha ⊗ x)) t₁
+    → t ≡ update (region 64 n cols (λ q j _. alpha ⊗ M q j)) t₀
+scaled alpha n cols M t₀ t₁ t e₁ e =
+    region-then 64 n cols (λ q j _. M q j) (λ q j x. alpha ⊗ x) (λ q j _. alpha ⊗ M q j) t₀ t₁ t (omega arith) e₁ e (λ i j hi hj x. refl)
+
+module _ (alpha : Float) (fa : Form) (a : List Float) (lda i₀ : ℕ) (fb : Form) (b : List Float) (ldb j₀ : ℕ) (down : Bool) (k ld rows cols : ℕ) where
+  A : Matrix
+  A = fromRow i₀ (entryOf fa a lda)
+
+  B : Matrix
+  B = fromColumn j₀ (entryOf fb b ldb)
+
+  -- a turn of the loop over the panels
+  pub panel-next : (l n l₀ : ℕ) (c₀ t₀ t₁ t m r : List Float) → 0 < ld → n ≤ 64 → cols * 64 ≤ length t₀ → l₀ ≡ turn down k l
+      → m ≡ update (region ld rows cols (partly alpha (fromRow i₀ (entryOf fa a lda)) (fromColumn j₀ (entryOf fb b ldb)) down k l)) c₀
+      → t₁ ≡ update (region 64 n cols (λ y x _. entryOf fb b ldb (along down l₀ y) (along false j₀ x))) t₀
+      → t ≡ update (region 64 n cols (λ q j x. alpha ⊗ x)) t₁
+      → r ≡ update (region ld rows cols (halfPacked n t (λ i q. entryOf fa a lda (i₀ + i) (along down l₀ q)))) m
+      → r ≡ update (region ld rows cols (partly alpha (fromRow i₀ (entryOf fa a lda)) (fromColumn j₀ (entryOf fb b ldb)) down k (l + n))) c₀
+  unfolding A B
+  panel-next l n l₀ c₀ t₀ t₁ t m r pos hn hl e em e₁ et er =
+      panel-more alpha A B down k ld rows cols c₀ pos l n t (λ i q. entryOf fa a lda (i₀ + i) (along down l₀ q)) m r em er
+      (λ q j hq hj.
+      held n cols (λ q j. alpha ⊗ entryOf fb b ldb (along down l₀ q) (along false j₀ j)) t₀ t q j hn hl
+      (scaled alpha n cols (λ y x. entryOf fb b ldb (along down l₀ y) (along false j₀ x)) t₀ t₁ t e₁ et) hq hj
+      ∙ ap₂ (λ (x y : ℕ). alpha ⊗ entryOf fb b ldb x y) (turn-along down k l q e) (along-up j₀ j refl))
+      (λ i q. ap (λ (x : ℕ). entryOf fa a lda (i₀ + i) x) (turn-along down k l q e))

@@ -1,0 +1,148 @@
+-- `triangle::triangle_panels` meets its contract: the terms below l are done.
+-- Assumes nothing.
+use Prim.Native.Nat.{ℕ, _≤_, _<_, _-_, _+_, _*_}
+use mathlib.Core.Bool.{false}
+use mathlib.Core.Path.{_≡_, refl, ap, _∙_}
+use native.Mathlib.Omega.{arith}
+use lib.ListN.{length}
+use borrow.Author.Needs.{needs}
+use Rattle.arrays.specs.Update.{update, entries, only}
+use Rattle.arrays.proofs.UpdateLaws.{length-update}
+use Rattle.kernel.specs.Factor.{entryOf, fromRow, fromColumn, partly, product, corner}
+use Rattle.kernel.proofs.FactorLaws.{upward, along-up}
+use Rattle.kernel.proofs.TriangleLaws.{corner-terms-none, corner-panel}
+use Rattle.kernel.proofs.triangle.triangle_panels.Statement.{statement}
+use Rattle.kernel.proofs.triangle.triangle_panels.Tie as tie
+
+abbrev Inv-loop : tie.InvT-loop
+Inv-loop lower c₀ ld order k fa a lda i0 fb b ldb j0 alpha r u₀ t₀ l₀ c u t l =
+    (l ≤ k) × (length c ≡ length c₀) × (length u ≡ length u₀) × (length t ≡ length t₀)
+    × (c ≡ update (entries ld (only (corner lower order order) (partly alpha (fromRow i0 (entryOf fa a lda)) (fromColumn j0 (entryOf fb b ldb)) false k l))) c₀)
+
+abbrev μ-loop : tie.MeasureT-loop
+μ-loop lower c₀ ld order k fa a lda i0 fb b ldb j0 alpha r u₀ t₀ l₀ c u t l = k - l
+
+-- in a turn: n terms from the l-th on
+record Turn (l n k r ld order lc lu lt : ℕ) : Type 0 where
+  some : 0 < n
+  few : n ≤ 64
+  within : l + n ≤ k
+  machine : k < 18446744073709551616
+  leading : 0 < ld
+  fit : order ≤ ld
+  room : order * ld + order ≤ lc + ld
+  some-rows : 0 < order
+  small : order ≤ 64
+  buffer-u : 4096 ≤ lu
+  buffer-t : 4096 ≤ lt
+
+turn : (c : tie.After-smaller Inv-loop μ-loop) → Turn (c .before .before .loop .l) (c .smaller .result) (c .before .before .before .before .before .before .before .before .args .k) (c .before .before .before .before .before .before .before .before .args .r) (c .before .before .before .before .before .before .before .before .args .ld) (c .before .before .before .before .before .before .before .before .args .order) (length (c .before .before .loop .c)) (length (c .before .before .loop .u)) (length (c .before .before .loop .t))
+turn c =
+    record {
+      some = c .smaller .ensures .2 (omega arith) (omega arith);
+      few = omega arith;
+      within = omega arith;
+      machine = omega arith;
+      leading = omega arith;
+      fit = omega arith;
+      room = omega arith;
+      some-rows = omega arith;
+      small = omega arith;
+      buffer-u = omega arith;
+      buffer-t = omega arith;
+    }
+
+loop-holds : tie.Need-loop-holds Inv-loop μ-loop
+loop-holds c = (omega arith, refl, refl, refl, corner-terms-none _ _ _ _ _ _ _ _ _ _ _ _ _ _)
+
+sub-smaller : tie.Need-sub-smaller Inv-loop μ-loop
+sub-smaller c = omega arith
+
+smaller-requires : tie.Need-smaller-requires Inv-loop μ-loop
+smaller-requires c κs = search needs
+
+pack-requires : tie.Need-pack-requires Inv-loop μ-loop
+pack-requires c κs = (
+  omega (arith, turn (c .before)),
+  omega (arith, turn (c .before)),
+  omega (arith, turn (c .before)),
+  omega (arith, turn (c .before)),
+  upward _ _ (omega (arith, turn (c .before))),
+  upward _ _ (omega arith),
+  λ y x hy hx.
+      rw (along-up (c .before .before .before .loop .l) y refl, along-up (c .before .before .before .before .before .before .before .before .before .args .j0) x refl) (c .before .before .before .before .before .before .before .before .before .pre .1 .1 .1 (c .before .before .before .loop .l + y) x (omega (arith, turn (c .before))) hx),
+)
+
+scale-requires : tie.Need-scale-requires Inv-loop μ-loop
+scale-requires c κs = let e = ap length (c .before .before .before .pack .ensures) ∙ length-update _ _ in omega (arith, turn (c .before .before .before .before .before), e)
+
+pack-requires-2 : tie.Need-pack-requires-2 Inv-loop μ-loop
+pack-requires-2 c κs = (
+  omega (arith, turn (c .before .before .before .before .before .before .before .before .before)),
+  omega (arith, turn (c .before .before .before .before .before .before .before .before .before)),
+  omega (arith, turn (c .before .before .before .before .before .before .before .before .before)),
+  omega (arith, turn (c .before .before .before .before .before .before .before .before .before)),
+  upward _ _ (omega (arith, c .before .before .before .before .before .before .before .before .before .before .before .before .before .before .before .before .before .pre .1 .0)),
+  upward _ _ (omega (arith, turn (c .before .before .before .before .before .before .before .before .before))),
+  λ y x hy hx.
+      rw (along-up (c .before .before .before .before .before .before .before .before .before .before .before .before .before .before .before .before .before .args .i0) y refl, along-up (c .before .before .before .before .before .before .before .before .before .before .before .loop .l) x refl) (c .before .before .before .before .before .before .before .before .before .before .before .before .before .before .before .before .before .pre .1 .1 .0 y (c .before .before .before .before .before .before .before .before .before .before .before .loop .l + x) hy (omega (arith, turn (c .before .before .before .before .before .before .before .before .before)))),
+)
+
+walk-requires : tie.Need-walk-requires Inv-loop μ-loop
+walk-requires c κs =
+    let et = ap length (c .before .before .before .before .before .before .before .before .before .scale .ensures) ∙ length-update _ _ ∙ ap length (c .before .before .before .before .before .before .before .before .before .before .before .before .before .pack .ensures) ∙ length-update _ _ in
+    let eu = ap length (c .before .before .before .before .before .pack2 .ensures) ∙ length-update _ _ in
+    omega (arith, turn (c .before .before .before .before .before .before .before .before .before .before .before .before .before .before .before), et, eu)
+
+add-l : tie.Need-add-l Inv-loop μ-loop
+add-l c = omega (arith, turn (c .before .before .before .before .before .before .before .before .before .before .before .before .before .before .before .before .before .before))
+
+loop-less : tie.Need-loop-less Inv-loop μ-loop
+loop-less c = omega (arith, turn (c .before .before .before .before .before .before .before .before .before .before .before .before .before .before .before .before .before .before))
+
+loop-again : tie.Need-loop-again Inv-loop μ-loop
+loop-again c =
+    let n = turn (c .before .before .before .before .before .before .before .before .before .before .before .before .before .before .before .before .before .before) in
+    let e =
+    corner-panel _ _ _ _ _ _ _ _ _ _ _ _ _ _ _ _ _ _ _ _ _ _ _ (omega (arith, n)) (omega (arith, n)) (omega (arith, n)) (omega (arith, n)) (omega (arith, n))
+    (c .before .before .before .before .before .before .before .before .before .before .before .before .before .before .before .before .before .before .before .before .loop .inv .4) (c .before .before .before .before .before .before .before .before .before .before .before .before .before .before .before .before .pack .ensures) (c .before .before .before .before .before .before .before .before .before .before .before .before .scale .ensures) (c .before .before .before .before .before .before .before .before .pack2 .ensures) (c .before .before .walk .ensures) in (
+      omega (arith, n),
+      ap length e ∙ length-update _ _,
+      ap length (c .before .before .before .before .before .before .before .before .pack2 .ensures) ∙ length-update _ _ ∙ c .before .before .before .before .before .before .before .before .before .before .before .before .before .before .before .before .before .before .before .before .loop .inv .2,
+      ap length (c .before .before .before .before .before .before .before .before .before .before .before .before .scale .ensures) ∙ length-update _ _ ∙ ap length (c .before .before .before .before .before .before .before .before .before .before .before .before .before .before .before .before .pack .ensures) ∙ length-update _ _ ∙ c .before .before .before .before .before .before .before .before .before .before .before .before .before .before .before .before .before .before .before .before .loop .inv .3,
+      e,
+    )
+
+same-length : tie.Need-same-length Inv-loop μ-loop
+same-length c = omega arith
+
+same-length-2 : tie.Need-same-length-2 Inv-loop μ-loop
+same-length-2 c = omega arith
+
+same-length-3 : tie.Need-same-length-3 Inv-loop μ-loop
+same-length-3 c = omega arith
+
+returns : tie.Need-returns Inv-loop μ-loop
+unfolding product
+returns c = let e : c .before .loop .l ≡ c .before .before .before .before .before .before .before .args .k = omega arith in rw e at (c .before .loop .inv .4)
+
+pub triangle-panels-spec : {M : Type 1} → statement M
+triangle-panels-spec =
+    tie.close
+    (tie.spec
+    Inv-loop
+    μ-loop
+    loop-holds
+    sub-smaller
+    smaller-requires
+    pack-requires
+    scale-requires
+    pack-requires-2
+    walk-requires
+    add-l
+    loop-less
+    loop-again
+    same-length
+    same-length-2
+    same-length-3
+    returns)

@@ -1,0 +1,44 @@
+// The entries of a factor, and the order of the terms.
+ghost use mathlib.Core.Path.{_≡_};
+ghost use Prim.Native.Nat.{_+_, _<_};
+ghost use lib.ListN.{length};
+ghost use Rattle.kernel.specs.Factor.{Indices, indexOf, entryOf, along, turn};
+use super::Form;
+
+// The place of entry (i, j) in an array that holds a factor in a form.
+pub fn place(form: Form, ld: usize, i: usize, j: usize) -> usize
+    requires { ⌜ indexOf form ld i j < 18446744073709551616 ⌝ }
+    ensures { λ r. ⌜ r ≡ indexOf form ld i j ⌝ }
+{
+    match form {
+        Form::Plain => j * ld + i,
+        Form::Transposed => i * ld + j,
+        Form::Lower => { if j <= i { j * ld + i } else { i * ld + j } }
+        Form::Upper => { if i <= j { j * ld + i } else { i * ld + j } }
+    }
+}
+
+// The q-th index from `from` on, up or down.
+pub fn step(down: bool, from: usize, q: usize) -> usize
+    requires { ⌜ Indices down from (q + 1) ⌝ }
+    ensures { λ r. ⌜ r ≡ along down from q ⌝ }
+{
+    if down { from - q } else { from + q }
+}
+
+// Entry (i, j) of a factor.
+pub fn entry(form: Form, a: &[f64], ld: usize, i: usize, j: usize) -> f64
+    requires { ⌜ indexOf form ld i j < length (now a) ⌝ }
+    ensures { λ r. ⌜ r ≡ entryOf form (now (a .entry)) ld i j ⌝ }
+{
+    let p = place(form, ld, i, j);
+    a[p]
+}
+
+// The index of the term that comes q-th of k.
+pub fn turn_of(down: bool, k: usize, q: usize) -> usize
+    requires { ⌜ q < k ⌝ }
+    ensures { λ r. ⌜ r ≡ turn down k q ⌝ }
+{
+    if down { k - 1 - q } else { q }
+}

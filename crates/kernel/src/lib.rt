@@ -1,0 +1,67 @@
+// Products of blocks of f64, column-major, with every element's terms in order. What they compute is in specs/.
+ghost use mathlib.Core.Path.{_≡_};
+ghost use Prim.Native.Nat.{ℕ, _+_, _*_, _≤_, _<_};
+ghost use lib.ListN.{length};
+ghost use Rattle.arrays.specs.Update.{update, region};
+ghost use Rattle.kernel.specs.Factor.{indexOf, entryOf, fromRow, fromColumn, product};
+
+pub mod block;
+pub mod factor;
+pub mod leaves;
+pub mod pack;
+pub mod panels;
+pub mod pass;
+pub mod triangle;
+
+// How an array holds a factor: as it is, transposed, or symmetric with only one triangle to be read.
+pub enum Form {
+    Plain,
+    Transposed,
+    Lower,
+    Upper,
+}
+
+// The general multiply: alpha times the left factor, its rows from i0 on, times the right factor, its columns from j0 on, added to rows by cols entries of c.
+// There are k terms, in order from the first up or from the last down. r is the size of the blocks, and the result does not depend on it.
+pub fn multiply(
+    c: &mut [f64],
+    ld: usize,
+    rows: usize,
+    cols: usize,
+    k: usize,
+    fa: Form,
+    a: &[f64],
+    lda: usize,
+    i0: usize,
+    fb: Form,
+    b: &[f64],
+    ldb: usize,
+    j0: usize,
+    alpha: f64,
+    down: bool,
+    r: usize,
+)
+    requires { ⌜ (0 < rows) × (rows ≤ ld) × (cols * ld + rows ≤ length (now c) + ld) × (0 < cols) × (cols ≤ 64) × (0 < r) × (r ≤ 64) ⌝ }
+    requires { ⌜ (i0 + rows < 18446744073709551616) × (j0 + cols < 18446744073709551616) ⌝ }
+    requires { ⌜ ((i l : ℕ) → i < rows → l < k → indexOf fa lda (i0 + i) l < length (now a)) × ((l j : ℕ) → l < k → j < cols → indexOf fb ldb l (j0 + j) < length (now b)) ⌝ }
+    ensures { λ _. ⌜ now (c .exit) ≡ update (region ld rows cols (product alpha (fromRow i0 (entryOf fa (now (a .entry)) lda)) (fromColumn j0 (entryOf fb (now (b .entry)) ldb)) down k)) (now (c .entry)) ⌝ }
+{
+    panels::blocked(
+        c,
+        ld,
+        rows,
+        cols,
+        k,
+        fa,
+        a,
+        lda,
+        i0,
+        fb,
+        b,
+        ldb,
+        j0,
+        alpha,
+        down,
+        r,
+    );
+}

@@ -1,0 +1,136 @@
+// A product that is restricted to one triangle of a diagonal block: each column's loop stays inside the triangle.
+ghost use mathlib.Core.Path.{_≡_};
+ghost use mathlib.Core.Bool.{true, false};
+ghost use Prim.Native.Nat.{ℕ, _+_, _*_, _≤_, _<_};
+ghost use lib.ListN.{length};
+ghost use Rattle.arrays.specs.Update.{update, entries, only};
+ghost use Rattle.kernel.specs.Product.{packed};
+ghost use Rattle.kernel.specs.Factor.{indexOf, entryOf, fromRow, fromColumn, product, corner};
+use super::Form;
+use super::block;
+use super::pack;
+use super::panels;
+use super::pass;
+
+// The product of two packed blocks in the lower triangle: column j from the diagonal down.
+fn walk_lower(c: &mut [f64], ld: usize, order: usize, terms: usize, u: &[f64], t: &[f64])
+    requires { ⌜ (0 < ld) × (order ≤ ld) × (order * ld + order ≤ length (now c) + ld) × (order ≤ 64) × (terms ≤ 64) × (4096 ≤ length (now u)) × (4096 ≤ length (now t)) ⌝ }
+    ensures { λ _. ⌜ now (c .exit) ≡ update (entries ld (only (corner true order order) (packed terms (now (u .entry)) (now (t .entry))))) (now (c .entry)) ⌝ }
+{
+    let mut j = 0;
+    while j < order {
+        let from = j * ld + j;
+        let x = j * 64;
+        block::column(&mut c[from..], order - j, terms, &u[j..], &t[x..]);
+        j += 1;
+    }
+}
+
+// The same in the upper triangle: column j from the top to the diagonal.
+fn walk_upper(c: &mut [f64], ld: usize, order: usize, terms: usize, u: &[f64], t: &[f64])
+    requires { ⌜ (0 < ld) × (order ≤ ld) × (order * ld + order ≤ length (now c) + ld) × (order ≤ 64) × (terms ≤ 64) × (4096 ≤ length (now u)) × (4096 ≤ length (now t)) ⌝ }
+    ensures { λ _. ⌜ now (c .exit) ≡ update (entries ld (only (corner false order order) (packed terms (now (u .entry)) (now (t .entry))))) (now (c .entry)) ⌝ }
+{
+    let mut j = 0;
+    while j < order {
+        let from = j * ld;
+        let x = j * 64;
+        block::column(&mut c[from..], j + 1, terms, u, &t[x..]);
+        j += 1;
+    }
+}
+
+// The product of two packed blocks in one triangle of an order by order block.
+fn walk(lower: bool, c: &mut [f64], ld: usize, order: usize, terms: usize, u: &[f64], t: &[f64])
+    requires { ⌜ (0 < ld) × (order ≤ ld) × (order * ld + order ≤ length (now c) + ld) × (order ≤ 64) × (terms ≤ 64) × (4096 ≤ length (now u)) × (4096 ≤ length (now t)) ⌝ }
+    ensures { λ _. ⌜ now (c .exit) ≡ update (entries ld (only (corner lower order order) (packed terms (now (u .entry)) (now (t .entry))))) (now (c .entry)) ⌝ }
+{
+    if lower {
+        walk_lower(c, ld, order, terms, u, t);
+        return;
+    }
+    walk_upper(c, ld, order, terms, u, t);
+}
+
+// The product by panels of r terms, with the buffers u and t.
+fn triangle_panels(
+    lower: bool,
+    c: &mut [f64],
+    ld: usize,
+    order: usize,
+    k: usize,
+    fa: Form,
+    a: &[f64],
+    lda: usize,
+    i0: usize,
+    fb: Form,
+    b: &[f64],
+    ldb: usize,
+    j0: usize,
+    alpha: f64,
+    r: usize,
+    u: &mut [f64],
+    t: &mut [f64],
+)
+    requires { ⌜ (0 < order) × (order ≤ ld) × (order * ld + order ≤ length (now c) + ld) × (order ≤ 64) × (0 < r) × (r ≤ 64) × (4096 ≤ length (now u)) × (4096 ≤ length (now t)) ⌝ }
+    requires { ⌜ (i0 + order < 18446744073709551616) × (j0 + order < 18446744073709551616) ⌝ }
+    requires { ⌜ ((i l : ℕ) → i < order → l < k → indexOf fa lda (i0 + i) l < length (now a)) × ((l j : ℕ) → l < k → j < order → indexOf fb ldb l (j0 + j) < length (now b)) ⌝ }
+    ensures { λ _. ⌜ now (c .exit) ≡ update (entries ld (only (corner lower order order) (product alpha (fromRow i0 (entryOf fa (now (a .entry)) lda)) (fromColumn j0 (entryOf fb (now (b .entry)) ldb)) false k))) (now (c .entry)) ⌝ }
+{
+    let mut l = 0;
+    while l < k {
+        let n = panels::smaller(r, k - l);
+        pack::pack(t, n, order, fb, b, ldb, l, false, j0, false);
+        pass::scale(t, 64, n, order, alpha);
+        pack::pack(u, order, n, fa, a, lda, i0, false, l, false);
+        walk(lower, c, ld, order, n, u, t);
+        l += n;
+    }
+}
+
+// The general multiply in one triangle, diagonal included, of an order by order block of c: alpha times the left factor, its rows from i0 on, times the right
+// factor, its columns from j0 on. The other entries are kept.
+pub fn triangle(
+    lower: bool,
+    c: &mut [f64],
+    ld: usize,
+    order: usize,
+    k: usize,
+    fa: Form,
+    a: &[f64],
+    lda: usize,
+    i0: usize,
+    fb: Form,
+    b: &[f64],
+    ldb: usize,
+    j0: usize,
+    alpha: f64,
+    r: usize,
+)
+    requires { ⌜ (0 < order) × (order ≤ ld) × (order * ld + order ≤ length (now c) + ld) × (order ≤ 64) × (0 < r) × (r ≤ 64) ⌝ }
+    requires { ⌜ (i0 + order < 18446744073709551616) × (j0 + order < 18446744073709551616) ⌝ }
+    requires { ⌜ ((i l : ℕ) → i < order → l < k → indexOf fa lda (i0 + i) l < length (now a)) × ((l j : ℕ) → l < k → j < order → indexOf fb ldb l (j0 + j) < length (now b)) ⌝ }
+    ensures { λ _. ⌜ now (c .exit) ≡ update (entries ld (only (corner lower order order) (product alpha (fromRow i0 (entryOf fa (now (a .entry)) lda)) (fromColumn j0 (entryOf fb (now (b .entry)) ldb)) false k))) (now (c .entry)) ⌝ }
+{
+    let mut u = [0.0f64; 4096];
+    let mut t = [0.0f64; 4096];
+    triangle_panels(
+        lower,
+        c,
+        ld,
+        order,
+        k,
+        fa,
+        a,
+        lda,
+        i0,
+        fb,
+        b,
+        ldb,
+        j0,
+        alpha,
+        r,
+        &mut u,
+        &mut t,
+    );
+}
