@@ -1,0 +1,75 @@
+-- `blas::complete` goes through the strips from left to right: what stands after each is one strip of all columns so far.
+-- Assumes nothing.
+use Prim.Native.Nat.{_-_, _≤_, _<_}
+use mathlib.Core.Path.{_≡_, refl, sym, _∙_}
+use lib.ListN.{length}
+use Rattle.definitions.specs.Element.{strip}
+use Rattle.definitions.proofs.Strips.{strip-none}
+use Rattle.blas.proofs.Lent.{fits-still, strip-next, strips-end, length-strip}
+use native.Mathlib.Omega.{arith}
+use Rattle.blas.proofs.complete.Statement.{statement}
+use Rattle.blas.proofs.complete.Tie as tie
+
+abbrev Inv-loop : tie.InvT-loop
+Inv-loop call a b out₀ w r d from₀ out from = (from ≤ d) × (length out ≡ length out₀) × (out ≡ strip call a b 0 from out₀)
+
+abbrev μ-loop : tie.MeasureT-loop
+μ-loop call a b out₀ w r d from₀ out from = d - from
+
+-- a strip has a column
+more : (c : tie.After-smaller Inv-loop μ-loop) → 0 < c .smaller .result
+more c = c .smaller .ensures .2 (omega (arith, c .before .before .before .before .before .before .before .pre .1)) (omega arith)
+
+extent-requires : tie.Need-extent-requires Inv-loop μ-loop
+extent-requires c κs = tt
+
+loop-holds : tie.Need-loop-holds Inv-loop μ-loop
+loop-holds c = (omega arith, refl, sym (strip-none _ _ _ 0 _))
+
+sub-smaller : tie.Need-sub-smaller Inv-loop μ-loop
+sub-smaller c = omega arith
+
+smaller-requires : tie.Need-smaller-requires Inv-loop μ-loop
+smaller-requires c κs = tt
+
+strip-requires : tie.Need-strip-requires Inv-loop μ-loop
+strip-requires c κs = (
+  (fits-still _ (c .before .before .before .before .before .before .before .before .args .call) _ _ _ _ (c .before .before .before .loop .inv .1) (c .before .before .before .before .before .before .before .before .pre .0 .0), c .before .before .before .before .before .before .before .before .pre .0 .1),
+  (more (c .before), omega (arith, c .before .before .before .before .before .before .before .before .pre .1), omega (arith, c .before .before .before .before .extent .ensures .0), omega (arith, c .before .before .before .before .before .before .before .before .pre .1), omega (arith, c .before .before .before .before .before .before .before .before .pre .1)),
+)
+
+add-from : tie.Need-add-from Inv-loop μ-loop
+add-from c = omega (arith, c .before .before .before .before .before .before .before .extent .ensures)
+
+loop-less : tie.Need-loop-less Inv-loop μ-loop
+loop-less c = omega (arith, more (c .before .before .before .before))
+
+loop-again : tie.Need-loop-again Inv-loop μ-loop
+loop-again c = (
+  omega arith,
+  length-strip _ _ _ _ _ _ _ (c .before .before .strip .ensures) ∙ c .before .before .before .before .before .before .loop .inv .1,
+  strip-next (c .before .before .before .before .before .before .before .before .before .before .before .args .call) _ _ _ _ _ _ _ _ _ _ (c .before .before .before .before .before .before .before .before .before .before .before .pre .0 .0) (omega arith) (c .before .before .before .before .before .before .loop .inv .2) (c .before .before .strip .ensures),
+)
+
+same-length : tie.Need-same-length Inv-loop μ-loop
+same-length c = omega arith
+
+returns : tie.Need-returns Inv-loop μ-loop
+returns c = strips-end (c .before .before .before .before .before .before .args .call) _ _ _ _ _ (omega (arith, c .before .before .extent .ensures .0)) (c .before .loop .inv .2)
+
+pub complete-spec : {M : Type 1} → statement M
+complete-spec =
+    tie.close
+    (tie.spec
+    Inv-loop
+    μ-loop
+    extent-requires
+    loop-holds
+    sub-smaller
+    smaller-requires
+    strip-requires
+    add-from
+    loop-less
+    loop-again
+    same-length
+    returns)

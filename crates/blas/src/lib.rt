@@ -1,0 +1,156 @@
+// The direct calls. Each checks its arguments, and what is ready goes strip by strip through the update of its routine.
+ghost use mathlib.Core.Path.{_≡_};
+ghost use mathlib.Core.Logic.{_⊎_};
+ghost use Prim.Native.Nat.{ℕ, _+_, _≤_, _<_};
+ghost use lib.ListN.{length};
+ghost use Rattle.definitions.specs.Call as Calls;
+ghost use Rattle.definitions.specs.Element as Element;
+ghost use Rattle.definitions.specs.Check as Check;
+ghost use Rattle.definitions.specs.Direct as Direct;
+ghost use Rattle.definitions.specs.declared.Call.{Call as CallOf};
+ghost use Rattle.definitions.specs.declared.Checked.the-variants.{Refused, Ready};
+ghost use Rattle.definitions.specs.declared.Routine.the-variants.{Gemm, Symm};
+ghost use Rattle.definitions.proofs.Fits.{Fits};
+use definitions::Args;
+use definitions::Call;
+use definitions::Checked;
+use definitions::Routine;
+use definitions::Scalar;
+
+// The columns from `from` on of a call that fits, in blocks of r.
+fn strip(call: Call, a: &[f64], b: &[f64], out: &mut [f64], from: usize, cols: usize, r: usize)
+    requires { ⌜ Fits (call .routine) call (length (now a)) (length (now b)) (length (now out)) × ((call .routine ≡ Gemm) ⊎ (call .routine ≡ Symm)) ⌝ }
+    requires { ⌜ (0 < cols) × (cols ≤ 64) × (from + cols ≤ Calls.extent call) × (0 < r) × (r ≤ 64) ⌝ }
+    ensures { λ _. ⌜ now (out .exit) ≡ Element.strip call (now (a .entry)) (now (b .entry)) from (from + cols) (now (out .entry)) ⌝ }
+{
+    let routine = call.routine;
+    let ld = call.ldc as usize;
+    let x = from * ld;
+    let part = &mut out[x..];
+    match routine {
+        Routine::Gemm => gemm::gemm_strip(call, a, b, part, from, cols, r),
+        Routine::Symm => gemm::symm_strip(call, a, b, part, from, cols, r),
+        Routine::Syrk => {}
+        Routine::Syr2k => {}
+        Routine::Trmm => {}
+        Routine::Trsm => {}
+    }
+}
+
+// All strips of a call that fits, each of w columns but for the last.
+fn complete(call: Call, a: &[f64], b: &[f64], out: &mut [f64], w: usize, r: usize)
+    requires { ⌜ Fits (call .routine) call (length (now a)) (length (now b)) (length (now out)) × ((call .routine ≡ Gemm) ⊎ (call .routine ≡ Symm)) ⌝ }
+    requires { ⌜ (0 < w) × (w ≤ 64) × (0 < r) × (r ≤ 64) ⌝ }
+    ensures { λ _. ⌜ now (out .exit) ≡ Element.result call (now (a .entry)) (now (b .entry)) (now (out .entry)) ⌝ }
+{
+    let d = arguments::extent(call);
+    let mut from = 0;
+    while from < d {
+        let cols = kernel::panels::smaller(w, d - from);
+        strip(call, a, b, out, from, cols, r);
+        from += cols;
+    }
+}
+
+// What the answer of the check means for the output, and the number to be handed back.
+fn answered(answer: Checked, a: &[f64], b: &[f64], out: &mut [f64], w: usize, r: usize) -> i32
+    requires { ⌜ ((e : ℕ) → answer ≡ Refused e → e ≤ 30) ⌝ }
+    requires { ⌜ ((k : CallOf) → answer ≡ Ready k → Fits (k .routine) k (length (now a)) (length (now b)) (length (now out)) × ((k .routine ≡ Gemm) ⊎ (k .routine ≡ Symm)) × (0 < w) × (w ≤ 64) × (0 < r) × (r ≤ 64)) ⌝ }
+    ensures { λ x. ⌜ (x ≡ Check.number answer) × (now (out .exit) ≡ Check.leaves answer (now (a .entry)) (now (b .entry)) (now (out .entry))) ⌝ }
+{
+    match answer {
+        Checked::Refused(number) => number as i32,
+        Checked::Idle => 0,
+        Checked::Ready(call) => {
+            complete(call, a, b, out, w, r);
+            0
+        }
+    }
+}
+
+// GEMM: C becomes alpha op(A) op(B) + beta C. 0, or the number of a refusal.
+pub fn gemm(
+    transa: i32,
+    transb: i32,
+    m: i32,
+    n: i32,
+    k: i32,
+    alpha: f64,
+    a: &[f64],
+    lda: i32,
+    b: &[f64],
+    ldb: i32,
+    beta: f64,
+    c: &mut [f64],
+    ldc: i32,
+    w: i32,
+    r: i32,
+) -> i32
+    ensures { λ x. ⌜ (x ≡ Direct.gemm transa transb m n k alpha (now (a .entry)) lda (now (b .entry)) ldb beta (now (c .entry)) ldc w r .number)
+        × (now (c .exit) ≡ Direct.gemm transa transb m n k alpha (now (a .entry)) lda (now (b .entry)) ldb beta (now (c .entry)) ldc w r .array) ⌝ }
+{
+    let g = Args {
+        routine: Routine::Gemm,
+        side: 0,
+        uplo: 0,
+        transa: transa,
+        transb: transb,
+        diag: 0,
+        m: m,
+        n: n,
+        k: k,
+        alpha: Scalar::of(alpha),
+        beta: Scalar::of(beta),
+        lda: lda,
+        ldb: ldb,
+        ldc: ldc,
+        lena: a.len(),
+        lenb: b.len(),
+        lenc: c.len(),
+    };
+    let answer = arguments::check(w, r, g);
+    answered(answer, a, b, c, arguments::width(w), arguments::width(r))
+}
+
+// SYMM: C becomes alpha A B + beta C (side L) or alpha B A + beta C (side R), A symmetric.
+pub fn symm(
+    side: i32,
+    uplo: i32,
+    m: i32,
+    n: i32,
+    alpha: f64,
+    a: &[f64],
+    lda: i32,
+    b: &[f64],
+    ldb: i32,
+    beta: f64,
+    c: &mut [f64],
+    ldc: i32,
+    w: i32,
+    r: i32,
+) -> i32
+    ensures { λ x. ⌜ (x ≡ Direct.symm side uplo m n alpha (now (a .entry)) lda (now (b .entry)) ldb beta (now (c .entry)) ldc w r .number)
+        × (now (c .exit) ≡ Direct.symm side uplo m n alpha (now (a .entry)) lda (now (b .entry)) ldb beta (now (c .entry)) ldc w r .array) ⌝ }
+{
+    let g = Args {
+        routine: Routine::Symm,
+        side: side,
+        uplo: uplo,
+        transa: 0,
+        transb: 0,
+        diag: 0,
+        m: m,
+        n: n,
+        k: 0,
+        alpha: Scalar::of(alpha),
+        beta: Scalar::of(beta),
+        lda: lda,
+        ldb: ldb,
+        ldc: ldc,
+        lena: a.len(),
+        lenb: b.len(),
+        lenc: c.len(),
+    };
+    let answer = arguments::check(w, r, g);
+    answered(answer, a, b, c, arguments::width(w), arguments::width(r))
+}

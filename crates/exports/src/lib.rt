@@ -1,0 +1,66 @@
+// The direct calls for programs in other languages: a slice is a pointer and then a length.
+ghost use mathlib.Core.Path.{_≡_};
+ghost use Rattle.definitions.specs.Direct as Direct;
+
+#[no_mangle]
+pub extern "C" fn tl_dgemm(
+    transa: i32,
+    transb: i32,
+    m: i32,
+    n: i32,
+    k: i32,
+    alpha: f64,
+    a: &[f64],
+    lda: i32,
+    b: &[f64],
+    ldb: i32,
+    beta: f64,
+    c: &mut [f64],
+    ldc: i32,
+    w: i32,
+    r: i32,
+) -> i32
+    ensures { λ x. ⌜ (x ≡ Direct.gemm transa transb m n k alpha (now (a .entry)) lda (now (b .entry)) ldb beta (now (c .entry)) ldc w r .number)
+        × (now (c .exit) ≡ Direct.gemm transa transb m n k alpha (now (a .entry)) lda (now (b .entry)) ldb beta (now (c .entry)) ldc w r .array) ⌝ }
+{
+    blas::gemm(
+        transa,
+        transb,
+        m,
+        n,
+        k,
+        alpha,
+        a,
+        lda,
+        b,
+        ldb,
+        beta,
+        c,
+        ldc,
+        w,
+        r,
+    )
+}
+
+#[no_mangle]
+pub extern "C" fn tl_dsymm(
+    side: i32,
+    uplo: i32,
+    m: i32,
+    n: i32,
+    alpha: f64,
+    a: &[f64],
+    lda: i32,
+    b: &[f64],
+    ldb: i32,
+    beta: f64,
+    c: &mut [f64],
+    ldc: i32,
+    w: i32,
+    r: i32,
+) -> i32
+    ensures { λ x. ⌜ (x ≡ Direct.symm side uplo m n alpha (now (a .entry)) lda (now (b .entry)) ldb beta (now (c .entry)) ldc w r .number)
+        × (now (c .exit) ≡ Direct.symm side uplo m n alpha (now (a .entry)) lda (now (b .entry)) ldb beta (now (c .entry)) ldc w r .array) ⌝ }
+{
+    blas::symm(side, uplo, m, n, alpha, a, lda, b, ldb, beta, c, ldc, w, r)
+}

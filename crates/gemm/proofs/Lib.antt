@@ -1,0 +1,4 @@
+pub mod Values
+pub mod Sums
+pub mod StripLaws
+pub mod Rooms

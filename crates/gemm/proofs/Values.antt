@@ -1,0 +1,81 @@
+-- The values of GEMM and SYMM are products of factors as the kernel reads them.
+-- Assumes nothing.
+use Prim.Native.Nat.{ℕ, _+_, _*_}
+use mathlib.Core.Path.{_≡_, refl, ap, ap₂, _∙_}
+use mathlib.Core.Bool.{Bool, true, false}
+use mathlib.Core.List.{List, [], _∷_}
+use lib.Dec.{leb}
+use lib.Ieee.{Float, nan}
+use lib.ListN.{getD}
+use Rattle.arrays.specs.Choice.{if_then_else_}
+use Rattle.definitions.specs.Storage.{stored, op, inside, mirrored}
+use Rattle.definitions.specs.Call.{bySide, order}
+use Rattle.definitions.specs.Element.{Floats, _times_, term, productTerm, allTerms, accumulated, gemm, symm, value}
+use Rattle.definitions.specs.declared.Routine.the-variants.{Gemm, Symm}
+use Rattle.definitions.specs.declared.Side.{Side}
+use Rattle.definitions.specs.declared.Side.the-variants.{Left, Right}
+use Rattle.definitions.specs.declared.Transpose.{Transpose}
+use Rattle.definitions.specs.declared.Transpose.the-variants.{No, Yes}
+use Rattle.definitions.specs.declared.Triangle.{Triangle}
+use Rattle.definitions.specs.declared.Triangle.the-variants.{Lower, Upper}
+use Rattle.definitions.specs.declared.Call.{Call}
+use Rattle.kernel.specs.declared.Form.the-variants.{Plain}
+use Rattle.kernel.specs.Product.{accumulate}
+use Rattle.kernel.specs.Factor.{Matrix, indexOf, entryOf, turn, partly, product}
+use Rattle.gemm.specs.Forms.{opForm, mirroredForm, summed}
+
+-- op(A) and a mirrored A are read by their forms
+op-entry : (t : Transpose) (a : List Float) (ld : ℕ) → op t (stored nan a ld) ≡ entryOf (opForm t) a ld
+unfolding op stored entryOf indexOf
+op-entry No a ld = refl
+op-entry Yes a ld = refl
+
+either : (a : List Float) (b : Bool) (p q : ℕ) → (if b then getD a p nan else getD a q nan) ≡ getD a (if b then p else q) nan
+either a true p q = refl
+either a false p q = refl
+
+mirrored-entry : (t : Triangle) (a : List Float) (ld : ℕ) → mirrored t (stored nan a ld) ≡ entryOf (mirroredForm t) a ld
+unfolding mirrored inside stored entryOf indexOf
+mirrored-entry Lower a ld = λ k i j. either a (leb j i) (j * ld + i) (i * ld + j) k
+mirrored-entry Upper a ld = λ k i j. either a (leb i j) (j * ld + i) (i * ld + j) k
+
+plain-entry : (a : List Float) (ld : ℕ) → stored nan a ld ≡ entryOf Plain a ld
+unfolding stored entryOf indexOf
+plain-entry a ld = refl
+
+-- one product, added to its start
+added : (c : Call) (k : ℕ) (L R : Matrix) (i j : ℕ) (x : Float) → accumulated c k (L times R ∷ []) i j x ≡ summed (c .alpha) (c .beta) L R k i j x
+unfolding accumulated summed allTerms productTerm term product partly accumulate turn
+added c k L R i j x = refl
+
+pub gemm-value : (c : Call) (a b : List Float) (i j : ℕ) (x : Float)
+    → value Gemm c a b i j x ≡ summed (c .alpha) (c .beta) (entryOf (opForm (c .transa)) a (c .lda)) (entryOf (opForm (c .transb)) b (c .ldb)) (c .k) i j x
+unfolding value gemm
+gemm-value c a b i j x =
+    added c (c .k) _ _ i j x
+    ∙ ap₂ (λ (L R : Matrix). summed (c .alpha) (c .beta) L R (c .k) i j x) (op-entry (c .transa) a (c .lda)) (op-entry (c .transb) b (c .ldb))
+
+module _ (c : Call) (a b : List Float) (i j : ℕ) (x : Float) where
+  S : Floats
+  S = mirrored (c .uplo) (stored nan a (c .lda))
+
+  B : Floats
+  B = stored nan b (c .ldb)
+
+  by-side : (s : Side) → c .side ≡ s → value Symm c a b i j x ≡ accumulated c (bySide s (c .m) (c .n)) (bySide s (S times B) (B times S) ∷ []) i j x
+  unfolding value symm order S B
+  by-side s e = ap (λ (s : Side). accumulated c (bySide s (c .m) (c .n)) (bySide s (S times B) (B times S) ∷ []) i j x) e
+
+  pub symm-left : c .side ≡ Left
+      → value Symm c a b i j x ≡ summed (c .alpha) (c .beta) (entryOf (mirroredForm (c .uplo)) a (c .lda)) (entryOf Plain b (c .ldb)) (c .m) i j x
+  unfolding bySide S B
+  symm-left e =
+      by-side Left e ∙ added c (c .m) S B i j x
+      ∙ ap₂ (λ (L R : Matrix). summed (c .alpha) (c .beta) L R (c .m) i j x) (mirrored-entry (c .uplo) a (c .lda)) (plain-entry b (c .ldb))
+
+  pub symm-right : c .side ≡ Right
+      → value Symm c a b i j x ≡ summed (c .alpha) (c .beta) (entryOf Plain b (c .ldb)) (entryOf (mirroredForm (c .uplo)) a (c .lda)) (c .n) i j x
+  unfolding bySide S B
+  symm-right e =
+      by-side Right e ∙ added c (c .n) B S i j x
+      ∙ ap₂ (λ (L R : Matrix). summed (c .alpha) (c .beta) L R (c .n) i j x) (plain-entry b (c .ldb)) (mirrored-entry (c .uplo) a (c .lda))

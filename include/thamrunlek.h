@@ -1,0 +1,81 @@
+/* Thamrunlek: proved Level 3 BLAS routines on double precision numbers.
+ *
+ * A matrix is stored by columns: entry (i, j), both from 0, of an array with leading dimension ld is element
+ * j * ld + i. An array of p rows and q columns needs ld * (q - 1) + p elements, or none if p or q is 0. Each array is
+ * passed as a pointer and the number of elements behind it. No pointer is null, not even where the number is 0. The
+ * array that is written must not overlap the others.
+ *
+ * Codes are character numbers, in upper or lower case, as 'N' or 'n'.
+ *
+ * Every call returns 0, or the number of its first bad argument, and then it has written nothing. The strip width and
+ * the block size are tested first (30); then codes, sizes and leading dimensions, in the order of the numbers given
+ * below; then the lengths of the arrays, in that order too.
+ *
+ * The result of a call is fixed to the last bit. Each element starts as +0.0 if beta is zero (the old element is not
+ * read), as the old element if beta is one, and else as beta times it. Then, unless alpha is zero, each term turns the
+ * sum e into e + (alpha * v) * u, u from the left factor and v from the right, in ascending order, every operation
+ * rounded once. Strip width, block size and machine do not change it; only the bits of a NaN are not fixed.
+ */
+#ifndef THAMRUNLEK_H
+#define THAMRUNLEK_H
+
+#include <stddef.h>
+#include <stdint.h>
+
+#ifdef __cplusplus
+extern "C" {
+#endif
+
+/* GEMM, the general product: C := alpha * op(A) * op(B) + beta * C, where op(X) is X or its transpose.
+ *
+ *  1  transa  N: op(A) is A. T or C: op(A) is the transpose of A.
+ *  2  transb  the same for B.
+ *  3  m       rows of op(A) and of C, at least 0.
+ *  4  n       columns of op(B) and of C, at least 0.
+ *  5  k       columns of op(A) and rows of op(B), at least 0.
+ *  6  alpha   factor of the product. If it is zero, A and B are not read and may be of any length.
+ *  7  a       A: m by k for transa N, else k by m. It is only read. a_len elements; with fewer than A needs the call
+ *             is refused, unless m, n, k or alpha is zero.
+ *  8  lda     leading dimension of A: at least the rows that A is stored with, and at least 0.
+ *  9  b       B: k by n for transb N, else n by k. It is only read. b_len elements, tested like those of A.
+ * 10  ldb     leading dimension of B, in the same way.
+ * 11  beta    factor of the old C. If it is zero, the old C is not read.
+ * 12  c       C, m by n: read and written. c_len elements; with fewer than C needs the call is refused, unless m or n
+ *             is zero. Elements that are no entry of C keep their bits.
+ * 13  ldc     leading dimension of C: at least m.
+ * 30  w       strip width: the columns of C that are worked on at a time, 1 to 64. 64 is a good choice.
+ * 30  r       block size: the rows and terms that are worked on at a time, 1 to 64. 64 is a good choice.
+ */
+int32_t tl_dgemm(int32_t transa, int32_t transb, int32_t m, int32_t n, int32_t k, double alpha,
+                 const double *a, size_t a_len, int32_t lda, const double *b, size_t b_len, int32_t ldb,
+                 double beta, double *c, size_t c_len, int32_t ldc, int32_t w, int32_t r);
+
+/* SYMM, the product with a symmetric matrix A: C := alpha * A * B + beta * C or C := alpha * B * A + beta * C.
+ *
+ *  1  side    L: A stands left of B. R: A stands right of B.
+ *  2  uplo    L: only the lower triangle of A is read. U: only the upper one. The diagonal belongs to both; the other
+ *             triangle is taken as the mirror image.
+ *  3  m       rows of B and C, at least 0. For side L it is the order of A.
+ *  4  n       columns of B and C, at least 0. For side R it is the order of A.
+ *  5  alpha   factor of the product. If it is zero, A and B are not read and may be of any length.
+ *  6  a       A, m by m for side L, n by n for side R. It is only read. a_len elements; with fewer than A needs the
+ *             call is refused, unless m, n or alpha is zero.
+ *  7  lda     leading dimension of A: at least its order.
+ *  8  b       B, m by n. It is only read. b_len elements, tested like those of A.
+ *  9  ldb     leading dimension of B: at least m.
+ * 10  beta    factor of the old C. If it is zero, the old C is not read.
+ * 11  c       C, m by n: read and written. c_len elements; with fewer than C needs the call is refused, unless m or n
+ *             is zero. Elements that are no entry of C keep their bits.
+ * 12  ldc     leading dimension of C: at least m.
+ * 30  w       strip width, as for GEMM.
+ * 30  r       block size, as for GEMM.
+ */
+int32_t tl_dsymm(int32_t side, int32_t uplo, int32_t m, int32_t n, double alpha,
+                 const double *a, size_t a_len, int32_t lda, const double *b, size_t b_len, int32_t ldb,
+                 double beta, double *c, size_t c_len, int32_t ldc, int32_t w, int32_t r);
+
+#ifdef __cplusplus
+}
+#endif
+
+#endif
