@@ -1,0 +1,118 @@
+//! Compares two implementations of the routines bit for bit on made-up calls.
+//!
+//! A [`Case`] is a call with two sets of arrays, one for each implementation. They agree where the call reads and hold
+//! different fillers (NaN, infinities, noise) where it does not: padding, the other triangle, a unit diagonal, the old
+//! output with β zero, the inputs with α zero. So an implementation that looks at what it must not is told apart too.
+
+#![forbid(unsafe_code)]
+#![deny(missing_docs)]
+
+mod cases;
+mod random;
+
+pub use cases::{accepted, extreme, large, Case};
+pub use random::{seed, Random};
+
+use reference::{Call, Routine};
+
+/// An implementation: arguments, A, B and the output, which is C, or B for TRMM and TRSM; it gives a number.
+pub type Implementation<'f> = &'f dyn Fn(&Call, &[f64], &[f64], &mut [f64]) -> i32;
+
+/// The routines that the library has.
+pub fn routines() -> Vec<Routine> {
+    let of = |routine: &thamrunlek::Routine| match routine {
+        thamrunlek::Routine::Gemm => Routine::Gemm,
+        thamrunlek::Routine::Symm => Routine::Symm,
+        thamrunlek::Routine::Syrk => Routine::Syrk,
+        thamrunlek::Routine::Syr2k => Routine::Syr2k,
+        thamrunlek::Routine::Trmm => Routine::Trmm,
+        thamrunlek::Routine::Trsm => Routine::Trsm,
+    };
+    thamrunlek::ROUTINES.iter().map(of).collect()
+}
+
+/// The library.
+pub fn library(call: &Call, a: &[f64], b: &[f64], out: &mut [f64]) -> i32 {
+    use thamrunlek::raw;
+    let Call { side, uplo, transa, transb, diag, m, n, k, alpha, beta, lda, ldb, ldc, w, r, .. } = *call;
+    match call.routine {
+        Routine::Gemm => raw::gemm(transa, transb, m, n, k, alpha, a, lda, b, ldb, beta, out, ldc, w, r),
+        Routine::Symm => raw::symm(side, uplo, m, n, alpha, a, lda, b, ldb, beta, out, ldc, w, r),
+        Routine::Syrk => raw::syrk(uplo, transa, n, k, alpha, a, lda, beta, out, ldc, w, r),
+        Routine::Syr2k => raw::syr2k(uplo, transa, n, k, alpha, a, lda, b, ldb, beta, out, ldc, w, r),
+        Routine::Trmm => raw::trmm(side, uplo, transa, diag, m, n, alpha, a, lda, out, ldb, w, r),
+        Routine::Trsm => raw::trsm(side, uplo, transa, diag, m, n, alpha, a, lda, out, ldb, w, r),
+    }
+}
+
+/// Entry (i, j) lies in triangle `uplo`, diagonal included.
+fn in_triangle(call: &Call, i: usize, j: usize) -> bool {
+    i == j || (i < j) == call.upper()
+}
+
+/// The call writes entry (i, j) of its output.
+fn writes(call: &Call, i: usize, j: usize) -> bool {
+    let (rows, cols) = call.shape_of_output();
+    let part = call.routine.has_m() || in_triangle(call, i, j);
+    (i as i64) < rows as i64 && (j as i64) < cols as i64 && part
+}
+
+/// The same bits.
+fn equal(x: f64, y: f64) -> bool {
+    x.to_bits() == y.to_bits()
+}
+
+/// The same bits, or two NaNs.
+fn equal_or_nans(x: f64, y: f64) -> bool {
+    equal(x, y) || (x.is_nan() && y.is_nan())
+}
+
+/// The first element that is no longer what it was.
+fn changed(before: &[f64], after: &[f64]) -> Option<usize> {
+    (0..before.len()).find(|&p| !equal(before[p], after[p]))
+}
+
+/// Makes the call with both implementations. Ok has their number; an error says in what they differ: in the number, in
+/// an element that the call writes (two NaNs are equal), or in one that the implementation under test was not to touch.
+pub fn compare(case: &Case, tested: Implementation, expected: Implementation) -> Result<i32, String> {
+    let Case { call, a, b, out } = case;
+    let (a_after, b_after, mut out_after) = (a[0].clone(), b[0].clone(), out[0].clone());
+    let number = tested(call, &a_after, &b_after, &mut out_after);
+    let mut right = out[1].clone();
+    let right_number = expected(call, &a[1], &b[1], &mut right);
+
+    if number != right_number {
+        return Err(format!("the number is {number} and not {right_number}"));
+    }
+    for (name, before, after) in [("A", &a[0], &a_after), ("B", &b[0], &b_after)] {
+        if let Some(p) = changed(before, after) {
+            return Err(format!("element {p} of the input {name} was written"));
+        }
+    }
+    let ld = call.ld_of_output().max(1) as usize;
+    for p in 0..out_after.len() {
+        let (before, after, right) = (out[0][p], out_after[p], right[p]);
+        if number == 0 && writes(call, p % ld, p / ld) {
+            if !equal_or_nans(after, right) {
+                return Err(format!("entry ({}, {}) is {after:e} and not {right:e}", p % ld, p / ld));
+            }
+        } else if !equal(before, after) {
+            return Err(format!("element {p} of the output was {before:e} and is {after:e}"));
+        }
+    }
+    Ok(number)
+}
+
+/// Compares the library with the reference on case number `index` of a test, made by `make` from a generator of its
+/// own. On a difference it panics with what is needed to make the case again.
+pub fn hold(test: &str, index: u64, make: impl FnOnce(&mut Random) -> Case) -> i32 {
+    let case = make(&mut Random::of(test, index));
+    compare(&case, &library, &reference::direct).unwrap_or_else(|difference| {
+        let lengths = (case.a[0].len(), case.b[0].len(), case.out[0].len());
+        panic!(
+            "{difference}\nseed {} (THAMRUNLEK_SEED), test {test}, case {index}\n{:?}\nlengths of A, B and output {lengths:?}",
+            seed(),
+            case.call
+        )
+    })
+}

@@ -1,0 +1,55 @@
+//! A reproducible source of made-up numbers.
+
+use std::{env, sync::OnceLock};
+
+/// The seed of a run: the variable THAMRUNLEK_SEED, or a fixed one.
+pub fn seed() -> u64 {
+    static SEED: OnceLock<u64> = OnceLock::new();
+    *SEED.get_or_init(|| match env::var("THAMRUNLEK_SEED") {
+        Ok(text) => text.parse().unwrap_or_else(|_| panic!("THAMRUNLEK_SEED is not a number: {text}")),
+        Err(_) => 20_260_101,
+    })
+}
+
+/// SplitMix64.
+pub struct Random(u64);
+
+impl Random {
+    /// The generator of case number `index` of a test.
+    pub fn of(test: &str, index: u64) -> Random {
+        let mut random = Random(seed());
+        for word in test.bytes().map(u64::from).chain([index]) {
+            random.0 = random.bits() ^ word;
+        }
+        random
+    }
+
+    /// The next 64 bits.
+    pub fn bits(&mut self) -> u64 {
+        self.0 = self.0.wrapping_add(0x9e37_79b9_7f4a_7c15);
+        let z = (self.0 ^ (self.0 >> 30)).wrapping_mul(0xbf58_476d_1ce4_e5b9);
+        let z = (z ^ (z >> 27)).wrapping_mul(0x94d0_49bb_1331_11eb);
+        z ^ (z >> 31)
+    }
+
+    /// A number from `low` to `high`, both included.
+    pub fn from(&mut self, low: i32, high: i32) -> i32 {
+        (low as i64 + (self.bits() % (high as i64 - low as i64 + 1) as u64) as i64) as i32
+    }
+
+    /// True once in `n` times.
+    pub fn once_in(&mut self, n: i32) -> bool {
+        self.from(1, n) == 1
+    }
+
+    /// One of the items.
+    pub fn pick<T: Copy>(&mut self, items: &[T]) -> T {
+        items[self.from(0, items.len() as i32 - 1) as usize]
+    }
+
+    /// A number of either sign with a full mantissa and an exponent of two from `low` to `high`.
+    pub fn float(&mut self, low: i32, high: i32) -> f64 {
+        let exponent = (self.from(low, high) + 1023) as u64;
+        f64::from_bits((self.bits() & 0x800f_ffff_ffff_ffff) | (exponent << 52))
+    }
+}

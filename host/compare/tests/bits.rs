@@ -1,0 +1,104 @@
+//! The library and the reference agree bit for bit on accepted calls.
+
+use compare::{accepted, hold, large, routines};
+use reference::{Call, Routine};
+
+/// Letters in both cases.
+const SIDES: [char; 4] = ['L', 'l', 'R', 'r'];
+const TRIANGLES: [char; 4] = ['L', 'l', 'U', 'u'];
+const TRANSPOSES: [char; 6] = ['N', 'n', 'T', 't', 'C', 'c'];
+const DIAGONALS: [char; 4] = ['U', 'u', 'N', 'n'];
+
+/// All combinations of the routine's options, from these letters.
+fn combinations(
+    routine: Routine, sides: &[char], triangles: &[char], transposes: &[char], diagonals: &[char],
+) -> Vec<Call> {
+    let none = ['N'];
+    let has_side = matches!(routine, Routine::Symm | Routine::Trmm | Routine::Trsm);
+    let sides = if has_side { sides } else { &none };
+    let triangles = if routine == Routine::Gemm { &none } else { triangles };
+    let transposes_a = if routine == Routine::Symm { &none } else { transposes };
+    let transposes_b = if routine == Routine::Gemm { transposes } else { &none };
+    let diagonals = if routine.in_place() { diagonals } else { &none };
+    let mut calls = vec![];
+    for &side in sides {
+        for &uplo in triangles {
+            for &transa in transposes_a {
+                for &transb in transposes_b {
+                    for &diag in diagonals {
+                        let [side, uplo, transa, transb, diag] = [side, uplo, transa, transb, diag].map(|x| x as i32);
+                        calls.push(Call { side, uplo, transa, transb, diag, ..Call::new(routine) });
+                    }
+                }
+            }
+        }
+    }
+    calls
+}
+
+/// The call takes the options of another.
+fn take_options(call: &mut Call, from: &Call) {
+    let Call { side, uplo, transa, transb, diag, .. } = *from;
+    *call = Call { side, uplo, transa, transb, diag, ..*call };
+}
+
+/// Compares, and expects the call to be accepted.
+fn agree(test: &str, index: u64, make: impl FnOnce(&mut compare::Random) -> compare::Case) {
+    assert_eq!(hold(test, index, make), 0, "{test}, case {index} is refused");
+}
+
+#[test]
+fn all_options_and_sizes() {
+    for routine in routines() {
+        let mut index = 0;
+        for options in combinations(routine, &SIDES, &TRIANGLES, &TRANSPOSES, &DIAGONALS) {
+            for size in 0..=20 {
+                for place in 0..3 {
+                    agree(&format!("options {routine:?}"), index, |random| {
+                        accepted(random, routine, |call| {
+                            take_options(call, &options);
+                            *[&mut call.m, &mut call.n, &mut call.k][place] = size;
+                        })
+                    });
+                    index += 1;
+                }
+            }
+        }
+        assert!(index >= 1000);
+    }
+}
+
+#[test]
+fn all_widths_and_block_sizes() {
+    for routine in routines() {
+        for (w, r) in (0..64 * 64).map(|index| (index / 64 + 1, index % 64 + 1)) {
+            agree(&format!("widths {routine:?}"), (64 * w + r) as u64, |random| {
+                accepted(random, routine, |call| (call.w, call.r) = (w, r))
+            });
+        }
+    }
+}
+
+#[test]
+fn twenty_thousand_random_calls_of_each_routine() {
+    for routine in routines() {
+        for index in 0..20_000 {
+            agree(&format!("random {routine:?}"), index, |random| accepted(random, routine, |_| ()));
+        }
+    }
+}
+
+#[test]
+fn sizes_around_multiples_of_64() {
+    for routine in routines() {
+        let combinations = combinations(routine, &['L', 'R'], &['L', 'U'], &['N', 'T'], &['U', 'N']);
+        let rounds = 48 / combinations.len() as u64;
+        for (options, index) in combinations.iter().zip(0..) {
+            for round in 0..rounds {
+                agree(&format!("large {routine:?}"), rounds * index + round, |random| {
+                    large(random, routine, |call| take_options(call, options))
+                });
+            }
+        }
+    }
+}

@@ -1,0 +1,236 @@
+//! The comparison can fail: each of these plausible and false implementations is told apart from the reference.
+
+use compare::{accepted, compare, Implementation, Random};
+use reference::{check, direct, Call, Routine};
+
+/// The first of 2,000 made-up calls on which the implementation differs from the reference.
+fn told_apart(routine: Routine, wrong: Implementation) -> Option<u64> {
+    (0..2000).find(|&index| {
+        let case = accepted(&mut Random::of("teeth", index), routine, |_| ());
+        compare(&case, wrong, &direct).is_err()
+    })
+}
+
+fn entry(x: &[f64], ld: i32, i: usize, j: usize) -> f64 {
+    x[j * ld as usize + i]
+}
+
+fn op(transposed: bool, x: &[f64], ld: i32, i: usize, j: usize) -> f64 {
+    if transposed {
+        entry(x, ld, j, i)
+    } else {
+        entry(x, ld, i, j)
+    }
+}
+
+/// β times the old element, by cases.
+fn start(beta: f64, old: f64) -> f64 {
+    match beta {
+        0.0 => 0.0,
+        1.0 => old,
+        _ => beta * old,
+    }
+}
+
+/// One term.
+fn add(call: &Call, e: f64, (u, v): (f64, f64)) -> f64 {
+    e + (call.alpha * v) * u
+}
+
+/// An element of GEMM from the old element and its factors u and v.
+type Element = fn(&Call, f64, &[(f64, f64)]) -> f64;
+
+/// GEMM with the elements worked out by `element`.
+fn gemm(element: Element) -> impl Fn(&Call, &[f64], &[f64], &mut [f64]) -> i32 {
+    move |call, a, b, c| {
+        let number = check(call, a.len(), b.len(), c.len());
+        if number != 0 {
+            return number;
+        }
+        let terms = if call.start_only() { 0 } else { call.k as usize };
+        for j in 0..call.n as usize {
+            for i in 0..call.m as usize {
+                let u = |l| op(call.transposed_a(), a, call.lda, i, l);
+                let v = |l| op(call.transposed_b(), b, call.ldb, l, j);
+                let factors: Vec<(f64, f64)> = (0..terms).map(|l| (u(l), v(l))).collect();
+                let place = j * call.ldc as usize + i;
+                c[place] = element(call, c[place], &factors);
+            }
+        }
+        0
+    }
+}
+
+fn right(call: &Call, old: f64, factors: &[(f64, f64)]) -> f64 {
+    factors.iter().fold(start(call.beta, old), |e, &term| add(call, e, term))
+}
+
+fn reversed(call: &Call, old: f64, factors: &[(f64, f64)]) -> f64 {
+    factors.iter().rev().fold(start(call.beta, old), |e, &term| add(call, e, term))
+}
+
+fn alpha_at_the_end(call: &Call, old: f64, factors: &[(f64, f64)]) -> f64 {
+    start(call.beta, old) + call.alpha * factors.iter().fold(0.0, |e, &(u, v)| e + v * u)
+}
+
+fn zeros_skipped(call: &Call, old: f64, factors: &[(f64, f64)]) -> f64 {
+    factors.iter().filter(|(_, v)| *v != 0.0).fold(start(call.beta, old), |e, &term| add(call, e, term))
+}
+
+fn fused(call: &Call, old: f64, factors: &[(f64, f64)]) -> f64 {
+    factors.iter().fold(start(call.beta, old), |e, &(u, v)| (call.alpha * v).mul_add(u, e))
+}
+
+fn beta_for_each_panel(call: &Call, old: f64, factors: &[(f64, f64)]) -> f64 {
+    let panels = factors.chunks(call.r as usize);
+    panels.fold(old, |e, panel| panel.iter().fold(start(call.beta, e), |e, &term| add(call, e, term)))
+}
+
+fn partial_sums(call: &Call, old: f64, factors: &[(f64, f64)]) -> f64 {
+    let panels = factors.chunks(call.r as usize);
+    panels.fold(start(call.beta, old), |e, panel| e + panel.iter().fold(0.0, |e, &term| add(call, e, term)))
+}
+
+fn old_element_times_zero(call: &Call, old: f64, factors: &[(f64, f64)]) -> f64 {
+    factors.iter().fold(call.beta * old, |e, &term| add(call, e, term))
+}
+
+#[test]
+fn wrong_elements() {
+    let wrong: [(&str, Element); 7] = [
+        ("reversed", reversed),
+        ("alpha at the end", alpha_at_the_end),
+        ("zeros skipped", zeros_skipped),
+        ("fused", fused),
+        ("beta for each panel", beta_for_each_panel),
+        ("partial sums", partial_sums),
+        ("old element times zero", old_element_times_zero),
+    ];
+    for (name, element) in wrong {
+        assert!(told_apart(Routine::Gemm, &gemm(element)).is_some(), "{name}");
+    }
+    assert_eq!(told_apart(Routine::Gemm, &gemm(right)), None);
+}
+
+/// The entries of the output that `which` chooses become zero.
+fn clear(call: &Call, out: &mut [f64], which: impl Fn(usize, usize) -> bool) {
+    let ld = call.ld_of_output().max(1) as usize;
+    (0..out.len()).filter(|p| which(p % ld, p / ld)).for_each(|p| out[p] = 0.0);
+}
+
+#[test]
+fn wrong_writes() {
+    for routine in reference::ROUTINES {
+        let writes_nothing = |call: &Call, a: &[f64], b: &[f64], out: &mut [f64]| direct(call, a, b, &mut out.to_vec());
+        assert!(told_apart(routine, &writes_nothing).is_some());
+
+        let fills_zeros = |call: &Call, a: &[f64], b: &[f64], out: &mut [f64]| {
+            let number = direct(call, a, b, out);
+            let (rows, cols) = call.shape_of_output();
+            clear(call, out, |i, j| number == 0 && i < rows as usize && j < cols as usize);
+            number
+        };
+        assert!(told_apart(routine, &fills_zeros).is_some());
+
+        let writes_padding = |call: &Call, a: &[f64], b: &[f64], out: &mut [f64]| {
+            let number = direct(call, a, b, out);
+            let rows = call.shape_of_output().0;
+            clear(call, out, |i, j| number == 0 && i == rows as usize && j == 0);
+            number
+        };
+        assert!(told_apart(routine, &writes_padding).is_some());
+
+        let refuses_empty = |call: &Call, a: &[f64], b: &[f64], out: &mut [f64]| {
+            let number = direct(call, a, b, out);
+            if number == 0 && call.empty() {
+                3
+            } else {
+                number
+            }
+        };
+        assert!(told_apart(routine, &refuses_empty).is_some());
+        assert_eq!(told_apart(routine, &direct), None);
+    }
+}
+
+#[test]
+fn other_triangle_cleared() {
+    for routine in [Routine::Syrk, Routine::Syr2k] {
+        let wrong = |call: &Call, a: &[f64], b: &[f64], c: &mut [f64]| {
+            let number = direct(call, a, b, c);
+            let n = call.n as usize;
+            clear(call, c, |i, j| number == 0 && i < n && j < n && i != j && (i < j) != call.upper());
+            number
+        };
+        assert!(told_apart(routine, &wrong).is_some());
+    }
+}
+
+#[test]
+fn wrong_options() {
+    let flipped = |code: i32, to: char, or: char| if reference::is(code, to) { or as i32 } else { to as i32 };
+    for routine in [Routine::Symm, Routine::Syrk, Routine::Syr2k, Routine::Trmm, Routine::Trsm] {
+        let other_triangle = |call: &Call, a: &[f64], b: &[f64], out: &mut [f64]| {
+            direct(&Call { uplo: flipped(call.uplo, 'L', 'U'), ..*call }, a, b, out)
+        };
+        assert!(told_apart(routine, &other_triangle).is_some());
+    }
+    for routine in [Routine::Trmm, Routine::Trsm] {
+        let other_diagonal = |call: &Call, a: &[f64], b: &[f64], out: &mut [f64]| {
+            direct(&Call { diag: flipped(call.diag, 'U', 'N'), ..*call }, a, b, out)
+        };
+        assert!(told_apart(routine, &other_diagonal).is_some());
+        let c_as_n = |call: &Call, a: &[f64], b: &[f64], out: &mut [f64]| {
+            let transa = if reference::is(call.transa, 'C') { 'N' as i32 } else { call.transa };
+            direct(&Call { transa, ..*call }, a, b, out)
+        };
+        assert!(told_apart(routine, &c_as_n).is_some());
+    }
+}
+
+#[test]
+fn syr2k_that_alternates_panels() {
+    let wrong = |call: &Call, a: &[f64], b: &[f64], c: &mut [f64]| {
+        let number = check(call, a.len(), b.len(), c.len());
+        if number != 0 || call.start_only() {
+            return direct(call, a, b, c);
+        }
+        let (n, k, r) = (call.n as usize, call.k as usize, call.r as usize);
+        let op_a = |i, l| op(call.transposed_a(), a, call.lda, i, l);
+        let op_b = |i, l| op(call.transposed_a(), b, call.ldb, i, l);
+        for (i, j) in (0..n * n).map(|p| (p % n, p / n)).filter(|(i, j)| i == j || (i < j) == call.upper()) {
+            let place = j * call.ldc as usize + i;
+            let mut e = start(call.beta, c[place]);
+            for from in (0..k).step_by(r) {
+                let panel = from..k.min(from + r);
+                e = panel.clone().fold(e, |e, l| add(call, e, (op_a(i, l), op_b(j, l))));
+                e = panel.fold(e, |e, l| add(call, e, (op_b(i, l), op_a(j, l))));
+            }
+            c[place] = e;
+        }
+        0
+    };
+    assert!(told_apart(Routine::Syr2k, &wrong).is_some());
+}
+
+#[test]
+fn trsm_with_ascending_terms_in_a_backward_solve() {
+    let wrong = |call: &Call, a: &[f64], b: &[f64], out: &mut [f64]| {
+        let backward = !call.right() && call.upper() && !call.transposed_a();
+        if !backward || call.start_only() || check(call, a.len(), b.len(), out.len()) != 0 {
+            return direct(call, a, b, out);
+        }
+        for j in 0..call.n as usize {
+            for i in (0..call.m as usize).rev() {
+                let mut e = call.alpha * entry(out, call.ldb, i, j);
+                for l in i + 1..call.m as usize {
+                    e += -entry(out, call.ldb, l, j) * entry(a, call.lda, i, l);
+                }
+                let diagonal = if call.unit() { 1.0 } else { entry(a, call.lda, i, i) };
+                out[j * call.ldb as usize + i] = e / diagonal;
+            }
+        }
+        0
+    };
+    assert!(told_apart(Routine::Trsm, &wrong).is_some());
+}

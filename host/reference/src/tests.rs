@@ -1,0 +1,241 @@
+//! Document 01's table, row by row, and its examples of the numbers handed back.
+
+use crate::machine::{run, trailer, End, Lent};
+use crate::{direct, Call, Routine};
+
+const P: f64 = 9007199254740992.0;
+const LETTER_U: i32 = 'U' as i32;
+
+/// A call whose leading dimensions are the rows of its matrices.
+fn tight(call: Call) -> Call {
+    Call { lda: call.stored_a().0, ldb: call.stored_b().0, ldc: call.shape_of_output().0, ..call }
+}
+
+fn sized(routine: Routine, m: i32, n: i32, k: i32) -> Call {
+    Call { m, n, k, ..Call::new(routine) }
+}
+
+/// Two NaNs count as equal.
+fn same(x: &[f64], y: &[f64]) -> bool {
+    x.len() == y.len() && x.iter().zip(y).all(|(x, y)| x.to_bits() == y.to_bits() || (x.is_nan() && y.is_nan()))
+}
+
+/// Makes an accepted call and holds the output against the result, for every width and block size.
+fn row(call: Call, a: &[f64], b: &[f64], out: &[f64], result: &[f64]) {
+    for w in [1, 2, 3, 64] {
+        for r in [1, 2, 3, 64] {
+            let mut c = out.to_vec();
+            assert_eq!(direct(&Call { w, r, ..tight(call) }, a, b, &mut c), 0);
+            assert!(same(&c, result), "{c:?} is not {result:?}");
+        }
+    }
+}
+
+#[test]
+fn row_a() {
+    row(sized(Routine::Gemm, 2, 2, 2), &[1., 3., 2., 4.], &[5., 7., 6., 8.], &[0.; 4], &[19., 43., 22., 50.]);
+}
+
+#[test]
+fn row_b() {
+    row(sized(Routine::Gemm, 1, 1, 3), &[P, 1., 1.], &[1., 1., 1.], &[0.], &[P]);
+}
+
+#[test]
+fn row_c() {
+    row(sized(Routine::Gemm, 1, 1, 3), &[1., 1., P], &[1., 1., 1.], &[0.], &[P + 2.]);
+}
+
+#[test]
+fn row_d() {
+    row(sized(Routine::Gemm, 1, 1, 1), &[2.], &[3.], &[f64::NAN], &[6.]);
+}
+
+#[test]
+fn row_e() {
+    row(sized(Routine::Gemm, 1, 1, 1), &[f64::INFINITY], &[0.], &[0.], &[f64::NAN]);
+}
+
+#[test]
+fn row_f() {
+    let call = Call { alpha: 0., beta: 2., ..sized(Routine::Gemm, 1, 1, 1) };
+    row(call, &[f64::INFINITY], &[1.], &[3.], &[6.]);
+}
+
+#[test]
+fn row_g() {
+    let call = Call { uplo: LETTER_U, ..sized(Routine::Symm, 2, 1, 0) };
+    row(call, &[1., 9., 2., 3.], &[1., 1.], &[0., 0.], &[3., 5.]);
+}
+
+#[test]
+fn row_h() {
+    let call = Call { beta: 1., ..sized(Routine::Syrk, 0, 2, 1) };
+    row(call, &[1., 2.], &[], &[10., 20., 30., 40.], &[11., 22., 30., 44.]);
+}
+
+#[test]
+fn row_i() {
+    row(sized(Routine::Syr2k, 0, 2, 1), &[1., 2.], &[3., 4.], &[9.; 4], &[6., 10., 9., 16.]);
+}
+
+#[test]
+fn row_j() {
+    let call = Call { uplo: LETTER_U, diag: LETTER_U, ..sized(Routine::Trmm, 2, 1, 0) };
+    row(call, &[9., 9., 2., 9.], &[], &[3., 4.], &[11., 4.]);
+}
+
+#[test]
+fn row_k() {
+    let call = Call { alpha: 2., ..sized(Routine::Trsm, 2, 1, 0) };
+    row(call, &[2., 1., 9., 4.], &[], &[3., 7.], &[3., 2.75]);
+}
+
+#[test]
+fn row_l() {
+    let call = Call { uplo: LETTER_U, diag: LETTER_U, ..sized(Routine::Trsm, 3, 1, 0) };
+    row(call, &[1., 0., 0., 1., 1., 0., 1., 0., 1.], &[], &[1., P, -P], &[0., P, -P]);
+}
+
+/// A record of one word for each field, with A, B and C the arrays X, Y and Z from their beginning.
+fn record(call: Call) -> Vec<i32> {
+    let Call { side, uplo, transa, transb, diag, m, n, k, lda, ldb, ldc, w, r, .. } = call;
+    let routine = call.routine as i32;
+    vec![routine, side, uplo, transa, transb, diag, m, n, k, 0, 0, lda, 1, 0, ldb, 2, 0, ldc, w, r]
+}
+
+/// A sheet of these records after `before` words that are not read.
+fn sheet(before: usize, records: &[Vec<i32>]) -> Vec<i32> {
+    let mut sheet = vec![-7; before];
+    records.iter().for_each(|record| sheet.extend(record));
+    sheet.extend([before as i32, records.len() as i32]);
+    sheet
+}
+
+fn lent(answers: usize) -> Lent {
+    Lent { arrays: [vec![2.; 9], vec![3., 4., 5., 6.], vec![0.; 9]], answers: vec![99; answers] }
+}
+
+fn row_m_call() -> Call {
+    Call { w: 1, ..tight(sized(Routine::Gemm, 1, 3, 1)) }
+}
+
+#[test]
+fn row_m() {
+    let sheet = sheet(5, &[record(row_m_call())]);
+    let scalars = [1., 0.];
+    let mut lent = lent(2);
+    assert_eq!(run(&sheet, &scalars, &mut lent, 0, 0, 2), End { number: 0, p: 0, s: 2, steps: 2 });
+    assert_eq!((lent.arrays[2][..4].to_vec(), lent.answers[0]), (vec![6., 8., 0., 0.], 99));
+    assert_eq!(run(&sheet, &scalars, &mut lent, 0, 2, 1), End { number: 0, p: 1, s: 0, steps: 1 });
+    assert_eq!((lent.arrays[2][..4].to_vec(), lent.answers.clone()), (vec![6., 8., 10., 0.], vec![0, 99]));
+    assert_eq!(run(&sheet, &scalars, &mut lent, 1, 0, 5), End { number: 0, p: 1, s: 0, steps: 0 });
+}
+
+/// The number of a direct call on arrays of these lengths.
+fn number(call: Call, a: usize, b: usize, c: usize) -> i32 {
+    direct(&call, &vec![1.; a], &vec![1.; b], &mut vec![1.; c])
+}
+
+#[test]
+fn numbers_of_direct_calls() {
+    let call = tight(sized(Routine::Gemm, 1, 1, 1));
+    assert_eq!(number(call, 1, 1, 1), 0);
+    assert_eq!(number(Call { transa: 88, ..call }, 1, 1, 1), 1);
+    assert_eq!(number(Call { m: 2, ldc: 2, ..call }, 2, 1, 2), 8);
+    assert_eq!(number(call, 1, 1, 0), 12);
+    assert_eq!(number(Call { w: 65, ..call }, 1, 1, 1), 30);
+}
+
+/// The answer of the only record of a sheet, after one step.
+fn answer(record: Vec<i32>) -> i32 {
+    let mut lent = lent(1);
+    let before = lent.arrays.clone();
+    let end = run(&sheet(0, &[record]), &[1., 0.], &mut lent, 0, 0, 1);
+    if lent.answers[0] != 0 {
+        assert_eq!(end, End { number: 0, p: 1, s: 0, steps: 1 });
+        assert_eq!(lent.arrays, before);
+    }
+    lent.answers[0]
+}
+
+/// The record with one word changed.
+fn with(record: Vec<i32>, place: usize, word: i32) -> Vec<i32> {
+    let mut record = record;
+    record[place] = word;
+    record
+}
+
+#[test]
+fn numbers_of_records() {
+    let good = record(tight(sized(Routine::Gemm, 1, 1, 1)));
+    assert_eq!(answer(good.clone()), 0);
+    assert_eq!(answer(with(good.clone(), 0, 7)), 31);
+    assert_eq!(answer(with(good.clone(), 9, 3)), 32);
+    assert_eq!(answer(with(with(good.clone(), 9, 3), 13, -1)), 32);
+    assert_eq!(answer(with(good.clone(), 10, -1)), 33);
+    assert_eq!(answer(with(good.clone(), 10, 10)), 33);
+    assert_eq!(answer(with(good.clone(), 10, 9)), 7);
+    assert_eq!(answer(with(with(good.clone(), 10, 10), 18, 0)), 33);
+    assert_eq!(answer(with(with(good, 3, 88), 18, 65)), 30);
+    let syrk = record(tight(sized(Routine::Syrk, 0, 1, 1)));
+    assert_eq!(answer(with(syrk.clone(), 15, 0)), 32);
+    assert_eq!(answer(with(with(syrk, 12, 5), 13, -1)), 0);
+    let trmm = record(tight(sized(Routine::Trmm, 1, 1, 0)));
+    assert_eq!(answer(with(trmm.clone(), 12, 0)), 32);
+    assert_eq!(answer(with(with(trmm, 15, 1), 16, -1)), 0);
+}
+
+/// The number of a run that is refused; it writes nothing and keeps its cursor.
+fn refused(sheet: &[i32], scalars: &[f64], answers: usize, p: i32, s: i32) -> i32 {
+    let mut lent = lent(answers);
+    let before = lent.clone();
+    let end = run(sheet, scalars, &mut lent, p, s, 9);
+    assert_eq!((end.p, end.s, end.steps), (p, s, 0));
+    assert_eq!((lent.arrays, lent.answers), (before.arrays, before.answers));
+    end.number
+}
+
+#[test]
+fn numbers_of_runs() {
+    assert_eq!(refused(&[0], &[], 0, 0, 0), 34);
+    assert_eq!(refused(&[], &[], 0, 0, 0), 34);
+    let mut odd = vec![0; 22];
+    (odd[20], odd[21]) = (-20, 2);
+    assert_eq!(refused(&odd, &[1.; 4], 2, 0, 0), 34);
+    assert_eq!(trailer(&odd), None);
+    assert_eq!(trailer(&[9, 9, 9, 3, 0]), Some((3, 0)));
+    let one = sheet(0, &[record(row_m_call())]);
+    assert_eq!(refused(&one, &[1.], 1, 0, 0), 35);
+    assert_eq!(refused(&one, &[1.; 2], 0, 0, 0), 35);
+    for cursor in [(1, 1), (-1, 0), (2, 0), (0, -1), (0, 3)] {
+        assert_eq!(refused(&one, &[1.; 2], 1, cursor.0, cursor.1), 36);
+    }
+    let bad = sheet(0, &[with(record(row_m_call()), 0, 7)]);
+    assert_eq!(refused(&bad, &[1.; 2], 1, 0, 1), 36);
+}
+
+#[test]
+fn a_sheet_is_the_same_in_any_budgets() {
+    let scalars = [2., 0.5, 1., 1., -1., 0.];
+    let records = [
+        record(Call { w: 2, ..tight(sized(Routine::Gemm, 2, 2, 2)) }),
+        with(record(row_m_call()), 0, 7),
+        record(Call { w: 1, ..tight(sized(Routine::Syr2k, 0, 2, 1)) }),
+    ];
+    let sheet = sheet(1, &records);
+    let mut whole = lent(3);
+    let end = run(&sheet, &scalars, &mut whole, 0, 0, u32::MAX);
+    assert_eq!(end, End { number: 0, p: 3, s: 0, steps: 4 });
+    assert_eq!(whole.answers, [0, 31, 0]);
+    for budget in 1..4 {
+        let mut parts = lent(3);
+        let (mut p, mut s, mut steps) = (0, 0, 0);
+        while p < 3 {
+            let end = run(&sheet, &scalars, &mut parts, p, s, budget);
+            (p, s, steps) = (end.p, end.s, steps + end.steps);
+        }
+        assert_eq!((s, steps), (0, 4));
+        assert_eq!((&parts.arrays, &parts.answers), (&whole.arrays, &whole.answers));
+    }
+}

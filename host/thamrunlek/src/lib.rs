@@ -1,0 +1,143 @@
+//! The six Level 3 BLAS routines on `f64`, proved: a call ends without a fault on any input, its result is bit for
+//! bit what the definitions say, and the bits do not depend on strip widths, block sizes or the machine.
+//!
+//! Matrices are stored by columns: entry (i, j), both from 0, of an array with leading dimension `ld` is element
+//! `j * ld + i`. An array of p rows and q columns needs `ld * (q - 1) + p` elements, or none if p or q is 0. op(A) is A
+//! or its transpose. Sizes and leading dimensions are `i32`, as in the BLAS.
+//!
+//! Each element is worked out in a fixed order, every operation rounded once: it starts as +0.0 if β is zero (the old
+//! element is not read), as the old element if β is one, else as β times it; then each term adds (α·v)·u, u from the
+//! left factor and v from the right, in ascending order and without skipping any.
+//!
+//! # Example
+//!
+//! ```
+//! use thamrunlek::{gemm, Blocks, Transpose::No};
+//!
+//! let a = [1.0, 3.0, 2.0, 4.0];
+//! let b = [5.0, 7.0, 6.0, 8.0];
+//! let mut c = [0.0; 4];
+//! gemm(No, No, 2, 2, 2, 1.0, &a, 2, &b, 2, 0.0, &mut c, 2, Blocks::default())?;
+//! assert_eq!(c, [19.0, 43.0, 22.0, 50.0]);
+//!
+//! let refusal = gemm(No, No, 2, 2, 2, 1.0, &a, 1, &b, 2, 0.0, &mut c, 2, Blocks::default()).unwrap_err();
+//! assert_eq!(refusal.number(), 8);
+//! assert_eq!(refusal.to_string(), "DGEMM: argument 8 (lda) is negative or below the rows of its matrix");
+//! # Ok::<(), thamrunlek::Refusal>(())
+//! ```
+
+#![deny(missing_docs, unsafe_code)]
+#![allow(clippy::too_many_arguments)]
+
+mod options;
+pub mod raw;
+mod refusal;
+
+pub use options::{Blocks, Diagonal, Side, Transpose, Triangle};
+pub use refusal::{Refusal, Routine};
+
+/// The routines that the archive has.
+pub const ROUTINES: &[Routine] = &[
+    #[cfg(linked = "dgemm")]
+    Routine::Gemm,
+    #[cfg(linked = "dsymm")]
+    Routine::Symm,
+    #[cfg(linked = "dsyrk")]
+    Routine::Syrk,
+    #[cfg(linked = "dsyr2k")]
+    Routine::Syr2k,
+    #[cfg(linked = "dtrmm")]
+    Routine::Trmm,
+    #[cfg(linked = "dtrsm")]
+    Routine::Trsm,
+];
+
+/// C ← α·op(A)·op(B) + β·C. op(A) is m by k, op(B) k by n and C m by n.
+pub fn gemm(
+    transa: Transpose, transb: Transpose, m: i32, n: i32, k: i32, alpha: f64, a: &[f64], lda: i32, b: &[f64], ldb: i32,
+    beta: f64, c: &mut [f64], ldc: i32, blocks: Blocks,
+) -> Result<(), Refusal> {
+    let Blocks { width, size } = blocks;
+    let (transa, transb) = (transa.code(), transb.code());
+    let number = raw::gemm(transa, transb, m, n, k, alpha, a, lda, b, ldb, beta, c, ldc, width, size);
+    Refusal::of(Routine::Gemm, number)
+}
+
+/// C ← α·A·B + β·C (side left, A of order m) or C ← α·B·A + β·C (side right, A of order n). A is symmetric and only
+/// its triangle `uplo` is read; B and C are m by n.
+pub fn symm(
+    side: Side, uplo: Triangle, m: i32, n: i32, alpha: f64, a: &[f64], lda: i32, b: &[f64], ldb: i32, beta: f64,
+    c: &mut [f64], ldc: i32, blocks: Blocks,
+) -> Result<(), Refusal> {
+    let Blocks { width, size } = blocks;
+    let number = raw::symm(side.code(), uplo.code(), m, n, alpha, a, lda, b, ldb, beta, c, ldc, width, size);
+    Refusal::of(Routine::Symm, number)
+}
+
+/// C ← α·op(A)·op(A)ᵀ + β·C. op(A) is n by k and C n by n; only triangle `uplo` of C is read or written.
+pub fn syrk(
+    uplo: Triangle, trans: Transpose, n: i32, k: i32, alpha: f64, a: &[f64], lda: i32, beta: f64, c: &mut [f64],
+    ldc: i32, blocks: Blocks,
+) -> Result<(), Refusal> {
+    let Blocks { width, size } = blocks;
+    let number = raw::syrk(uplo.code(), trans.code(), n, k, alpha, a, lda, beta, c, ldc, width, size);
+    Refusal::of(Routine::Syrk, number)
+}
+
+/// C ← α·op(A)·op(B)ᵀ + α·op(B)·op(A)ᵀ + β·C. op(A) and op(B) are n by k and C n by n; only triangle `uplo` of C is
+/// read or written. All terms of the first product come before those of the second.
+pub fn syr2k(
+    uplo: Triangle, trans: Transpose, n: i32, k: i32, alpha: f64, a: &[f64], lda: i32, b: &[f64], ldb: i32, beta: f64,
+    c: &mut [f64], ldc: i32, blocks: Blocks,
+) -> Result<(), Refusal> {
+    let Blocks { width, size } = blocks;
+    let number = raw::syr2k(uplo.code(), trans.code(), n, k, alpha, a, lda, b, ldb, beta, c, ldc, width, size);
+    Refusal::of(Routine::Syr2k, number)
+}
+
+/// B ← α·op(A)·B (side left, A of order m) or B ← α·B·op(A) (side right, A of order n). A is triangular, only its
+/// triangle `uplo` is read; B is m by n.
+pub fn trmm(
+    side: Side, uplo: Triangle, transa: Transpose, diag: Diagonal, m: i32, n: i32, alpha: f64, a: &[f64], lda: i32,
+    b: &mut [f64], ldb: i32, blocks: Blocks,
+) -> Result<(), Refusal> {
+    let Blocks { width, size } = blocks;
+    let (side, uplo, transa, diag) = (side.code(), uplo.code(), transa.code(), diag.code());
+    let number = raw::trmm(side, uplo, transa, diag, m, n, alpha, a, lda, b, ldb, width, size);
+    Refusal::of(Routine::Trmm, number)
+}
+
+/// B ← α·op(A)⁻¹·B (side left, A of order m) or B ← α·B·op(A)⁻¹ (side right, A of order n). A is triangular, only its
+/// triangle `uplo` is read; B is m by n. A zero on the diagonal is not refused: the quotient stands.
+pub fn trsm(
+    side: Side, uplo: Triangle, transa: Transpose, diag: Diagonal, m: i32, n: i32, alpha: f64, a: &[f64], lda: i32,
+    b: &mut [f64], ldb: i32, blocks: Blocks,
+) -> Result<(), Refusal> {
+    let Blocks { width, size } = blocks;
+    let (side, uplo, transa, diag) = (side.code(), uplo.code(), transa.code(), diag.code());
+    let number = raw::trsm(side, uplo, transa, diag, m, n, alpha, a, lda, b, ldb, width, size);
+    Refusal::of(Routine::Trsm, number)
+}
+
+#[cfg(test)]
+mod tests {
+    use super::*;
+
+    #[test]
+    fn options_are_the_letters_of_the_blas() {
+        assert_eq!([Side::Left.code(), Side::Right.code()], [76, 82]);
+        assert_eq!([Triangle::Lower.code(), Triangle::Upper.code()], [76, 85]);
+        assert_eq!([Transpose::No.code(), Transpose::Yes.code()], [78, 84]);
+        assert_eq!([Diagonal::Unit.code(), Diagonal::NonUnit.code()], [85, 78]);
+    }
+
+    #[test]
+    fn a_refusal_names_its_argument() {
+        let text = |routine, number| Refusal::of(routine, number).unwrap_err().to_string();
+        assert_eq!(text(Routine::Gemm, 1), "DGEMM: argument 1 (transa) is not a code that it takes");
+        assert_eq!(text(Routine::Syrk, 4), "DSYRK: argument 4 (k) is negative");
+        assert_eq!(text(Routine::Trsm, 11), "DTRSM: argument 11 (ldb) is negative or below the rows of its matrix");
+        assert_eq!(text(Routine::Symm, 11), "DSYMM: argument 11 (c) is shorter than its matrix needs");
+        assert_eq!(text(Routine::Gemm, 30), "DGEMM: the strip width or block size is not 1 to 64");
+    }
+}
