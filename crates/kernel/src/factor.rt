@@ -1,8 +1,7 @@
-// The entries of a factor, and the order of the terms.
+// The places of a factor's entries, and the order of the terms.
 ghost use mathlib.Core.Path.{_≡_};
 ghost use Prim.Native.Nat.{_+_, _<_};
-ghost use lib.ListN.{length};
-ghost use Rattle.kernel.specs.Factor.{Indices, indexOf, entryOf, along, turn};
+ghost use Rattle.kernel.specs.Factor.{Indices, indexOf, along, turn};
 use super::Form;
 
 // The place of entry (i, j) in an array that holds a factor in a form.
@@ -24,15 +23,6 @@ pub fn step(down: bool, from: usize, q: usize) -> usize
     ensures { λ r. ⌜ r ≡ along down from q ⌝ }
 {
     if down { from - q } else { from + q }
-}
-
-// Entry (i, j) of a factor.
-pub fn entry(form: Form, a: &[f64], ld: usize, i: usize, j: usize) -> f64
-    requires { ⌜ indexOf form ld i j < length (now a) ⌝ }
-    ensures { λ r. ⌜ r ≡ entryOf form (now (a .entry)) ld i j ⌝ }
-{
-    let p = place(form, ld, i, j);
-    a[p]
 }
 
 // The index of the term that comes q-th of k.
