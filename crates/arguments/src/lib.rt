@@ -13,7 +13,6 @@ use definitions::Call;
 use definitions::Checked;
 use definitions::Diagonal;
 use definitions::Routine;
-use definitions::Scalar;
 use definitions::Shape;
 use definitions::Side;
 use definitions::Transpose;

@@ -1,25 +1,19 @@
 -- Laws of folds over terms, for any type of sums and any step.
 -- Assumes nothing.
-use mathlib.Core.Bool.{Bool, true, false}
 use mathlib.Core.Path.{_≡_, refl, sym, ap, _∙_}
 use mathlib.Core.Logic.{⊎-elim}
 use mathlib.Core.List.{List, [], _∷_, _++_}
 use Prim.Native.Nat.{ℕ, zero, suc, _+_, _<_}
 use native.Mathlib.Nat.{add-zero, add-suc, eq-or-lt-of-le, le-of-suc-le-suc}
-use native.Mathlib.Numerals.{add-one}
 use native.Mathlib.Omega.{arith}
 use lib.ListN.{length, getD, length-append, List·getD-append}
 use lib.Seq.{getD-at}
-use Rattle.arrays.specs.Fold.{fold, among, solved}
+use Rattle.arrays.specs.Fold.{fold, solved}
 
 module _ {E : Type 0} where
   pub fold-none : (step : E → ℕ → E) (e : E) → fold step 0 e ≡ e
   unfolding fold
   fold-none step e = refl
-
-  pub fold-next : (step : E → ℕ → E) (k n : ℕ) (e : E) → n ≡ k + 1 → fold step n e ≡ step (fold step k e) k
-  unfolding fold
-  fold-next step k n e h = ap (λ (i : ℕ). fold step i e) (h ∙ add-one k)
 
   -- the terms below p + k are those below p and then k more
   pub fold-split : (step : E → ℕ → E) (p k : ℕ) (e : E) → fold step (p + k) e ≡ fold (λ x q. step x (p + q)) k (fold step p e)
@@ -38,14 +32,6 @@ module _ {E : Type 0} where
   unfolding fold
   fold-keep step zero e h = refl
   fold-keep step (suc k) e h = h k (omega arith) (fold step k e) ∙ fold-keep step k e (λ q b. h q (omega arith))
-
-  pub among-in : (inside : ℕ → Bool) (step : E → ℕ → E) (e : E) (l : ℕ) → inside l ≡ true → among inside step e l ≡ step e l
-  unfolding among
-  among-in inside step e l h = rw h
-
-  pub among-out : (inside : ℕ → Bool) (step : E → ℕ → E) (e : E) (l : ℕ) → inside l ≡ false → among inside step e l ≡ e
-  unfolding among
-  among-out inside step e l h = rw h
 
   -- ---- values that follow from those before them
 

@@ -2,7 +2,7 @@
 -- Assumes nothing.
 use Prim.Native.Nat.{ℕ, _+_, _-_, _*_, _≤_, _<_}
 use mathlib.Core.Path.{_≡_, sym, ap, subst, _∙_}
-use mathlib.Core.Bool.{true, false}
+use mathlib.Core.Bool.{Bool, true, false, true≢false}
 use mathlib.Core.Logic.{_⊎_, ⊎-elim}
 use mathlib.Core.List.{List}
 use native.Mathlib.Omega.{arith}
@@ -55,17 +55,17 @@ first-column c la lb len from cols h r some within =
     let e = extent-columns c (w .0) in
     (column-inside (c .ldc) (c .m) (c .n) from len (subst (λ (s : Shape). needed (c .ldc) (s .rows) (s .cols) ≤ len) (w .1) (h .room-c)) (h .some-rows) (omega (arith, e)), omega (arith, e))
 
-pub not-syrk : (f : Routine) → (f ≡ Gemm) ⊎ (f ≡ Symm) → f ≡ Syrk → ⊥
-not-syrk f h e = ⊎-elim (λ k. let z : _≡_ {A = ℕ} 0 1 = cc in omega arith) (λ k. let z : _≡_ {A = ℕ} 0 1 = cc in omega arith) h
+-- a routine that is not built yet is neither of the two
+abbrev pub built : Routine → Bool
+built Gemm = true
+built Symm = true
+built Syrk = false
+built Syr2k = false
+built Trmm = false
+built Trsm = false
 
-pub not-syr2k : (f : Routine) → (f ≡ Gemm) ⊎ (f ≡ Symm) → f ≡ Syr2k → ⊥
-not-syr2k f h e = ⊎-elim (λ k. let z : _≡_ {A = ℕ} 0 1 = cc in omega arith) (λ k. let z : _≡_ {A = ℕ} 0 1 = cc in omega arith) h
-
-pub not-trmm : (f : Routine) → (f ≡ Gemm) ⊎ (f ≡ Symm) → f ≡ Trmm → ⊥
-not-trmm f h e = ⊎-elim (λ k. let z : _≡_ {A = ℕ} 0 1 = cc in omega arith) (λ k. let z : _≡_ {A = ℕ} 0 1 = cc in omega arith) h
-
-pub not-trsm : (f : Routine) → (f ≡ Gemm) ⊎ (f ≡ Symm) → f ≡ Trsm → ⊥
-not-trsm f h e = ⊎-elim (λ k. let z : _≡_ {A = ℕ} 0 1 = cc in omega arith) (λ k. let z : _≡_ {A = ℕ} 0 1 = cc in omega arith) h
+pub not-built : (f g : Routine) → (f ≡ Gemm) ⊎ (f ≡ Symm) → built g ≡ false → f ≡ g → ⊥
+not-built f g h z e = true≢false (sym (⊎-elim (λ k. ap built k) (λ k. ap built k) h) ∙ ap built e ∙ z)
 
 -- ---- all strips
 

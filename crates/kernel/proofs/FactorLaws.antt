@@ -1,4 +1,4 @@
--- Laws of a factor's entries, of the order of the terms, and of a product's panels.
+-- Laws of a factor's entries and of the order of the terms.
 -- Assumes nothing.
 use mathlib.Core.Bool.{Bool, true, false}
 use mathlib.Core.Path.{_≡_}

@@ -1,6 +1,5 @@
 // One pass over a column, or over a region: cleared, scaled, divided.
 ghost use mathlib.Core.Path.{_≡_};
-ghost use mathlib.Core.Bool.{false};
 ghost use Prim.Native.Nat.{_+_, _*_, _≤_, _<_};
 ghost use lib.ListN.{length};
 ghost use Rattle.arrays.specs.Update.{update, below, region};

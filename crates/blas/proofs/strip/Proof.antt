@@ -1,9 +1,11 @@
 -- `blas::strip` lends the part of the output from the strip's first column on to the routine's update.
 -- Assumes nothing.
 use Prim.Native.Nat.{_+_, _*_, _≤_}
+use mathlib.Core.Path.{refl}
 use lib.ListN.{length}
 use denote.Ref.{now}
-use Rattle.blas.proofs.Lent.{put-strip, first-column, fits-part, not-syrk, not-syr2k, not-trmm, not-trsm}
+use Rattle.definitions.specs.declared.Routine.the-variants.{Syrk, Syr2k, Trmm, Trsm}
+use Rattle.blas.proofs.Lent.{put-strip, first-column, fits-part, not-built}
 use native.Mathlib.Omega.{arith}
 use borrow.Author.Needs.{needs}
 use Rattle.blas.proofs.strip.Statement.{statement}
@@ -74,25 +76,25 @@ same-length-3 : tie.Need-same-length-3
 same-length-3 c = search needs
 
 returns-3 : tie.Need-returns-3
-returns-3 c = absurd (not-syrk _ (c .before .before .before .before .before .before .before .before .before .pre .0 .1) (c .before .before .enum-told3 .given .1))
+returns-3 c = absurd (not-built _ Syrk (c .before .before .before .before .before .before .before .before .before .pre .0 .1) refl (c .before .before .enum-told3 .given .1))
 
 same-length-4 : tie.Need-same-length-4
 same-length-4 c = search needs
 
 returns-4 : tie.Need-returns-4
-returns-4 c = absurd (not-syr2k _ (c .before .before .before .before .before .before .before .before .before .pre .0 .1) (c .before .before .enum-told4 .given .1))
+returns-4 c = absurd (not-built _ Syr2k (c .before .before .before .before .before .before .before .before .before .pre .0 .1) refl (c .before .before .enum-told4 .given .1))
 
 same-length-5 : tie.Need-same-length-5
 same-length-5 c = search needs
 
 returns-5 : tie.Need-returns-5
-returns-5 c = absurd (not-trmm _ (c .before .before .before .before .before .before .before .before .before .pre .0 .1) (c .before .before .enum-told5 .given .1))
+returns-5 c = absurd (not-built _ Trmm (c .before .before .before .before .before .before .before .before .before .pre .0 .1) refl (c .before .before .enum-told5 .given .1))
 
 same-length-6 : tie.Need-same-length-6
 same-length-6 c = search needs
 
 returns-6 : tie.Need-returns-6
-returns-6 c = absurd (not-trsm _ (c .before .before .before .before .before .before .before .before .before .pre .0 .1) (c .before .before .enum-told6 .given .1))
+returns-6 c = absurd (not-built _ Trsm (c .before .before .before .before .before .before .before .before .before .pre .0 .1) refl (c .before .before .enum-told6 .given .1))
 
 pub strip-spec : {M : Type 1} → statement M
 strip-spec =
