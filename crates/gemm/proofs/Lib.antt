@@ -1,4 +1,3 @@
 pub mod Values
 pub mod Sums
 pub mod StripLaws
-pub mod Rooms

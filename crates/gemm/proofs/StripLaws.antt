@@ -13,9 +13,10 @@ use Rattle.definitions.specs.Element.{value, arrayB, StripOf}
 use Rattle.definitions.specs.declared.Routine.{Routine}
 use Rattle.definitions.specs.declared.Call.{Call}
 use Rattle.definitions.proofs.Parts.{strip-of-box}
-use Rattle.kernel.specs.Factor.{entryOf, fromColumn, product, partly}
-use Rattle.kernel.specs.declared.Form.{Form}
-use Rattle.gemm.specs.Forms.{summed}
+use Rattle.packing.specs.Factor.{entryOf}
+use Rattle.kernel.specs.Product.{fromColumn, product, partly}
+use Rattle.packing.specs.declared.Form.{Form}
+use Rattle.gemm.specs.Sum.{summed}
 
 module _ (c : Call) (a b : List Float) (from cols : ℕ) (f : Routine) (e : c .routine ≡ f) (writes-c : inPlace f ≡ false)
     (all : (i j : ℕ) → inTriangle f (c .uplo) i j ≡ true) where

@@ -11,8 +11,9 @@ use Rattle.arrays.proofs.Tests.{if-true, if-false}
 use Rattle.arrays.proofs.RegionLaws.{region-same, region-then}
 use Rattle.definitions.specs.Number.{isZero, factor, start}
 use Rattle.definitions.specs.declared.Scalar.{Scalar}
-use Rattle.kernel.specs.Factor.{Matrix, fromRow, product}
-use Rattle.gemm.specs.Forms.{summed}
+use Rattle.packing.specs.Factor.{Matrix}
+use Rattle.kernel.specs.Product.{fromRow, product}
+use Rattle.gemm.specs.Sum.{summed}
 
 from-first : (M : Matrix) → fromRow 0 M ≡ M
 from-first M = λ t i l. M (zero-add i t) l

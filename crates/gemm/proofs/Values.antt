@@ -1,47 +1,23 @@
 -- The values of GEMM and SYMM are products of factors as the kernel reads them.
 -- Assumes nothing.
-use Prim.Native.Nat.{ℕ, _+_, _*_}
+use Prim.Native.Nat.{ℕ}
 use mathlib.Core.Path.{_≡_, refl, ap, ap₂, _∙_}
-use mathlib.Core.Bool.{Bool, true, false}
 use mathlib.Core.List.{List, [], _∷_}
-use lib.Dec.{leb}
 use lib.Ieee.{Float, nan}
-use lib.ListN.{getD}
-use Rattle.arrays.specs.Choice.{if_then_else_}
-use Rattle.definitions.specs.Storage.{stored, op, inside, mirrored}
+use Rattle.definitions.specs.Storage.{stored, mirrored}
 use Rattle.definitions.specs.Call.{bySide, order}
 use Rattle.definitions.specs.Element.{Floats, _times_, term, productTerm, allTerms, accumulated, gemm, symm, value}
 use Rattle.definitions.specs.declared.Routine.the-variants.{Gemm, Symm}
 use Rattle.definitions.specs.declared.Side.{Side}
 use Rattle.definitions.specs.declared.Side.the-variants.{Left, Right}
-use Rattle.definitions.specs.declared.Transpose.{Transpose}
-use Rattle.definitions.specs.declared.Transpose.the-variants.{No, Yes}
-use Rattle.definitions.specs.declared.Triangle.{Triangle}
-use Rattle.definitions.specs.declared.Triangle.the-variants.{Lower, Upper}
 use Rattle.definitions.specs.declared.Call.{Call}
-use Rattle.kernel.specs.declared.Form.the-variants.{Plain}
-use Rattle.kernel.specs.Product.{accumulate}
-use Rattle.kernel.specs.Factor.{Matrix, indexOf, entryOf, turn, partly, product}
-use Rattle.gemm.specs.Forms.{opForm, mirroredForm, summed}
-
--- op(A) and a mirrored A are read by their forms
-op-entry : (t : Transpose) (a : List Float) (ld : ℕ) → op t (stored nan a ld) ≡ entryOf (opForm t) a ld
-unfolding op stored entryOf indexOf
-op-entry No a ld = refl
-op-entry Yes a ld = refl
-
-either : (a : List Float) (b : Bool) (p q : ℕ) → (if b then getD a p nan else getD a q nan) ≡ getD a (if b then p else q) nan
-either a true p q = refl
-either a false p q = refl
-
-mirrored-entry : (t : Triangle) (a : List Float) (ld : ℕ) → mirrored t (stored nan a ld) ≡ entryOf (mirroredForm t) a ld
-unfolding mirrored inside stored entryOf indexOf
-mirrored-entry Lower a ld = λ k i j. either a (leb j i) (j * ld + i) (i * ld + j) k
-mirrored-entry Upper a ld = λ k i j. either a (leb i j) (j * ld + i) (i * ld + j) k
-
-plain-entry : (a : List Float) (ld : ℕ) → stored nan a ld ≡ entryOf Plain a ld
-unfolding stored entryOf indexOf
-plain-entry a ld = refl
+use Rattle.packing.specs.declared.Form.the-variants.{Plain}
+use Rattle.blocks.specs.Terms.{accumulate}
+use Rattle.packing.specs.Factor.{Matrix, entryOf}
+use Rattle.kernel.specs.Product.{turn, partly, product}
+use Rattle.forms.specs.Forms.{opForm, mirroredForm}
+use Rattle.forms.proofs.Entries.{op-entry, mirrored-entry, plain-entry}
+use Rattle.gemm.specs.Sum.{summed}
 
 -- one product, added to its start
 added : (c : Call) (k : ℕ) (L R : Matrix) (i j : ℕ) (x : Float) → accumulated c k (L times R ∷ []) i j x ≡ summed (c .alpha) (c .beta) L R k i j x

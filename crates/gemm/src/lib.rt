@@ -8,34 +8,13 @@ ghost use Rattle.definitions.specs.Number.{isZero};
 ghost use Rattle.definitions.specs.Element.{StripOf};
 ghost use Rattle.definitions.specs.declared.Routine.the-variants.{Gemm, Symm};
 ghost use Rattle.definitions.proofs.Fits.{Fits};
-ghost use Rattle.kernel.specs.Factor.{indexOf, entryOf, fromColumn};
-ghost use Rattle.gemm.specs.Forms.{opForm, mirroredForm, summed};
+ghost use Rattle.packing.specs.Factor.{indexOf, entryOf};
+ghost use Rattle.kernel.specs.Product.{fromColumn};
+ghost use Rattle.gemm.specs.Sum.{summed};
 use definitions::Call;
 use definitions::Scalar;
 use definitions::Side;
-use definitions::Transpose;
-use definitions::Triangle;
-use kernel::Form;
-
-// How the kernel reads op(A).
-pub fn op_form(t: Transpose) -> Form
-    ensures { λ r. ⌜ r ≡ opForm t ⌝ }
-{
-    match t {
-        Transpose::No => Form::Plain,
-        Transpose::Yes => Form::Transposed,
-    }
-}
-
-// How it reads a symmetric A of which only one triangle is read.
-fn mirrored_form(t: Triangle) -> Form
-    ensures { λ r. ⌜ r ≡ mirroredForm t ⌝ }
-{
-    match t {
-        Triangle::Lower => Form::Lower,
-        Triangle::Upper => Form::Upper,
-    }
-}
+use packing::Form;
 
 // The start in rows by cols entries of c, and unless alpha is zero all k terms of alpha times the left factor times the right one, whose columns are
 // those from `from` on.
@@ -100,8 +79,8 @@ pub fn gemm_strip(
 {
     let transa = call.transa;
     let transb = call.transb;
-    let fa = op_form(transa);
-    let fb = op_form(transb);
+    let fa = forms::op_form(transa);
+    let fb = forms::op_form(transb);
     let m = call.m as usize;
     let k = call.k as usize;
     let lda = call.lda as usize;
@@ -143,7 +122,7 @@ pub fn symm_strip(
     ensures { λ _. ⌜ StripOf call (now (a .entry)) (now (b .entry)) from (from + cols) (from * call .ldc) (now (c .entry)) (now (c .exit)) ⌝ }
 {
     let uplo = call.uplo;
-    let f = mirrored_form(uplo);
+    let f = forms::mirrored_form(uplo);
     let m = call.m as usize;
     let n = call.n as usize;
     let lda = call.lda as usize;

@@ -12,11 +12,13 @@ use Rattle.arrays.specs.Update.{update, region}
 use Rattle.arrays.proofs.UpdateLaws.{at-update}
 use Rattle.arrays.proofs.RegionLaws.{region-at, region-keep, region-same, region-then, region-rows}
 use Rattle.floats.specs.Operations.{_⊗_}
-use Rattle.kernel.specs.Product.{at, packed, halfPacked}
-use Rattle.kernel.specs.Factor.{Indices, Matrix, entryOf, turn, along, fromRow, fromColumn, partly}
-use Rattle.kernel.specs.declared.Form.{Form}
-use Rattle.kernel.proofs.FactorLaws.{along-up, turn-up, turn-down}
-use Rattle.kernel.proofs.TermLaws.{accumulate-none, accumulate-same, accumulate-split}
+use Rattle.floats.specs.Array.{at}
+use Rattle.blocks.specs.Terms.{packed}
+use Rattle.kernel.specs.Product.{halfPacked, turn, fromRow, fromColumn, partly}
+use Rattle.packing.specs.Factor.{Indices, Matrix, entryOf, along}
+use Rattle.packing.specs.declared.Form.{Form}
+use Rattle.packing.proofs.FactorLaws.{along-up}
+use Rattle.blocks.proofs.TermLaws.{accumulate-none, accumulate-same, accumulate-split}
 
 -- what a buffer holds after packing: line x, element y
 pub held : (ny nx : ℕ) (M : Matrix) (d₀ d : List Float) (y x : ℕ) → ny ≤ 64 → nx * 64 ≤ length d₀ → d ≡ update (region 64 ny nx (λ y x _. M y x)) d₀
@@ -40,6 +42,14 @@ rows-more ld i h cols n M L u₀ u t l m ys pos il ll hh hu eu el em ey =
     (λ r j hr hj e. accumulate-same _ _ _ _ n e (λ q b. refl) (λ q b. held h n M u₀ u r q hh hu eu hr b ∙ el r q)))
 
 -- ---- a panel that begins with the l-th of k terms
+
+pub turn-up : {down : Bool} (k q : ℕ) → down ≡ false → turn down k q ≡ q
+unfolding turn
+turn-up k q e = rw e
+
+pub turn-down : {down : Bool} (k q : ℕ) → down ≡ true → turn down k q ≡ k - 1 - q
+unfolding turn
+turn-down k q e = rw e
 
 pub turn-below : (down : Bool) (k q : ℕ) → q < k → turn down k q < k
 unfolding turn

@@ -17,11 +17,14 @@ use Rattle.arrays.proofs.EntryLaws.{box-in, box-row-out, box-column-out, entrie
 use Rattle.arrays.proofs.PartLaws.{tail-at}
 use Rattle.arrays.proofs.RegionLaws.{mask-column}
 use Rattle.floats.specs.Operations.{_⊗_}
-use Rattle.kernel.specs.Product.{at, packed}
-use Rattle.kernel.specs.Factor.{entryOf, along, turn, fromRow, fromColumn, partly, corner}
-use Rattle.kernel.specs.declared.Form.{Form}
-use Rattle.kernel.proofs.TermLaws.{accumulate-none, accumulate-same, accumulate-split, column-of}
-use Rattle.kernel.proofs.FactorLaws.{along-up, turn-up}
+use Rattle.floats.specs.Array.{at}
+use Rattle.blocks.specs.Terms.{packed}
+use Rattle.packing.specs.Factor.{entryOf, along}
+use Rattle.kernel.specs.Product.{turn, fromRow, fromColumn, partly, corner}
+use Rattle.packing.specs.declared.Form.{Form}
+use Rattle.blocks.proofs.TermLaws.{accumulate-none, accumulate-same, accumulate-split, column-of}
+use Rattle.packing.proofs.FactorLaws.{along-up}
+use Rattle.kernel.proofs.PanelLaws.{turn-up}
 use Rattle.kernel.proofs.PanelLaws.{held, scaled, turn-along}
 
 -- ---- the mask

@@ -1,24 +1,41 @@
--- The terms of one element, and a product of two packed blocks.
---     accumulate   terms 0 to n - 1 in turn: term q turns the sum e into e + v q * u q
---     packed       entry (i, j) of a product of two packed blocks: term q, row i of the left block stands at q * 64 + i of u, and column j, term q of
---                  the right block, already times alpha, at j * 64 + q of t
---     halfPacked   entry (i, j) of a product whose left factor is L, by row and term, and whose right block is packed so
+-- The product that the general multiply adds.
+--     turn        the index of the term that comes q-th of k: from the first up, or from the last down
+--     product     entry (i, j) of alpha times L times R, added to e term by term: e + (alpha * v) * u, u from L and v from R
+--     partly      the same, after n of the k terms
+--     halfPacked  entry (i, j) of a product whose left factor is L, by row and term, and whose right block is packed: column j, term q, already times
+--                 alpha, at j * 64 + q of t
+--     corner      the mask of a triangle, diagonal included, in the rows below `rows` and the columns below `cols`
+use mathlib.Core.Bool.{Bool, true, false, _&&_}
 use mathlib.Core.List.{List}
-use Prim.Native.Nat.{ℕ, _+_, _*_}
-use lib.ListN.{getD}
-use lib.Ieee.{Float, nan}
-use Rattle.floats.specs.Operations.{_⊕_, _⊗_}
-use Rattle.arrays.specs.Update.{EntryMap}
-use Rattle.arrays.specs.Fold.{fold}
+use Prim.Native.Nat.{ℕ, _+_, _-_, _*_}
+use lib.Dec.{leb}
+use lib.Ieee.{Float}
+use Rattle.arrays.specs.Choice.{if_then_else_}
+use Rattle.arrays.specs.Update.{EntryMap, Mask, box}
+use Rattle.floats.specs.Array.{at}
+use Rattle.floats.specs.Operations.{_⊗_}
+use Rattle.blocks.specs.Terms.{accumulate}
+use Rattle.packing.specs.Factor.{Matrix}
 
-abbrev pub at : List Float → ℕ → Float
-at l p = getD l p nan
+unfoldable pub turn : Bool → ℕ → ℕ → ℕ
+turn false k q = q
+turn true k q = k - 1 - q
 
-unfoldable pub accumulate : (ℕ → Float) → (ℕ → Float) → ℕ → Float → Float
-accumulate v u n e = fold (λ e q. e ⊕ v q ⊗ u q) n e
+unfoldable pub partly : Float → Matrix → Matrix → Bool → ℕ → ℕ → EntryMap Float
+partly alpha L R down k n i j e = accumulate (λ q. alpha ⊗ R (turn down k q) j) (λ q. L i (turn down k q)) n e
 
-unfoldable pub packed : ℕ → List Float → List Float → EntryMap Float
-packed n u t i j e = accumulate (λ q. at t (j * 64 + q)) (λ q. at u (q * 64 + i)) n e
+unfoldable pub product : Float → Matrix → Matrix → Bool → ℕ → EntryMap Float
+product alpha L R down k = partly alpha L R down k k
 
 unfoldable pub halfPacked : ℕ → List Float → (ℕ → ℕ → Float) → EntryMap Float
 halfPacked n t L i j e = accumulate (λ q. at t (j * 64 + q)) (λ q. L i q) n e
+
+-- the rows of a factor from i₀ on, and its columns from j₀ on
+abbrev pub fromRow : ℕ → Matrix → Matrix
+fromRow i₀ M i l = M (i₀ + i) l
+
+abbrev pub fromColumn : ℕ → Matrix → Matrix
+fromColumn j₀ M l j = M l (j₀ + j)
+
+unfoldable pub corner : Bool → ℕ → ℕ → Mask
+corner lower rows cols i j = box rows cols i j && (if lower then leb j i else leb i j)

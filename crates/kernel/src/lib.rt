@@ -3,23 +3,13 @@ ghost use mathlib.Core.Path.{_≡_};
 ghost use Prim.Native.Nat.{ℕ, _+_, _*_, _≤_, _<_};
 ghost use lib.ListN.{length};
 ghost use Rattle.arrays.specs.Update.{update, region};
-ghost use Rattle.kernel.specs.Factor.{indexOf, entryOf, fromRow, fromColumn, product};
+ghost use Rattle.packing.specs.Factor.{indexOf, entryOf};
+ghost use Rattle.kernel.specs.Product.{fromRow, fromColumn, product};
 
-pub mod block;
-pub mod factor;
-pub mod leaves;
-pub mod pack;
 pub mod panels;
-pub mod pass;
 pub mod triangle;
 
-// How an array holds a factor: as it is, transposed, or symmetric with only one triangle to be read.
-pub enum Form {
-    Plain,
-    Transposed,
-    Lower,
-    Upper,
-}
+use packing::Form;
 
 // The general multiply: alpha times the left factor, its rows from i0 on, times the right factor, its columns from j0 on, added to rows by cols entries of c.
 // There are k terms, in order from the first up or from the last down. r is the size of the blocks, and the result does not depend on it.

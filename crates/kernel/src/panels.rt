@@ -4,19 +4,26 @@ ghost use mathlib.Core.Bool.{false};
 ghost use Prim.Native.Nat.{ℕ, _+_, _*_, _≤_, _<_};
 ghost use lib.ListN.{length};
 ghost use Rattle.arrays.specs.Update.{update, region};
-ghost use Rattle.kernel.specs.Product.{halfPacked};
-ghost use Rattle.kernel.specs.Factor.{Indices, indexOf, entryOf, along, fromRow, fromColumn, product};
-use super::Form;
-use super::block;
-use super::factor;
-use super::pack;
-use super::pass;
+ghost use Rattle.kernel.specs.Product.{turn, halfPacked, fromRow, fromColumn, product};
+ghost use Rattle.packing.specs.Factor.{Indices, indexOf, entryOf, along};
+use blocks::block;
+use blocks::pass;
+use packing::Form;
+use packing::pack;
 
 // The smaller of two numbers.
 pub fn smaller(x: usize, y: usize) -> usize
     ensures { λ r. ⌜ (r ≤ x) × (r ≤ y) × ((0 < x) → (0 < y) → 0 < r) ⌝ }
 {
     if x < y { x } else { y }
+}
+
+// The index of the term that comes q-th of k.
+fn turn_of(down: bool, k: usize, q: usize) -> usize
+    requires { ⌜ q < k ⌝ }
+    ensures { λ r. ⌜ r ≡ turn down k q ⌝ }
+{
+    if down { k - 1 - q } else { q }
 }
 
 // The terms of one panel, whose right block is packed in t: the left factor by blocks of r rows that are packed into u.
@@ -79,7 +86,7 @@ pub fn panels(
     let mut l = 0;
     while l < k {
         let n = smaller(r, k - l);
-        let l0 = factor::turn_of(down, k, l);
+        let l0 = turn_of(down, k, l);
         pack::pack(t, n, cols, fb, b, ldb, l0, down, j0, false);
         pass::scale(t, 64, n, cols, alpha);
         sweep(c, ld, rows, cols, n, fa, a, lda, i0, l0, down, r, u, t);

@@ -4,13 +4,14 @@ ghost use mathlib.Core.Bool.{true, false};
 ghost use Prim.Native.Nat.{ℕ, _+_, _*_, _≤_, _<_};
 ghost use lib.ListN.{length};
 ghost use Rattle.arrays.specs.Update.{update, entries, only};
-ghost use Rattle.kernel.specs.Product.{packed};
-ghost use Rattle.kernel.specs.Factor.{indexOf, entryOf, fromRow, fromColumn, product, corner};
-use super::Form;
-use super::block;
-use super::pack;
+ghost use Rattle.blocks.specs.Terms.{packed};
+ghost use Rattle.packing.specs.Factor.{indexOf, entryOf};
+ghost use Rattle.kernel.specs.Product.{fromRow, fromColumn, product, corner};
 use super::panels;
-use super::pass;
+use blocks::block;
+use blocks::pass;
+use packing::Form;
+use packing::pack;
 
 // The product of two packed blocks in the lower triangle: column j from the diagonal down.
 fn walk_lower(c: &mut [f64], ld: usize, order: usize, terms: usize, u: &[f64], t: &[f64])

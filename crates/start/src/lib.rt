@@ -12,9 +12,9 @@ pub fn column(c: &mut [f64], n: usize, beta: Scalar)
     ensures { λ _. ⌜ now (c .exit) ≡ update (below n (λ i x. start beta x)) (now (c .entry)) ⌝ }
 {
     match beta {
-        Scalar::Zero => kernel::pass::clear_column(c, n),
+        Scalar::Zero => blocks::pass::clear_column(c, n),
         Scalar::One => {}
-        Scalar::Other(b) => kernel::pass::scale_column(c, n, b),
+        Scalar::Other(b) => blocks::pass::scale_column(c, n, b),
     }
 }
 
@@ -24,8 +24,8 @@ pub fn region(c: &mut [f64], ld: usize, rows: usize, cols: usize, beta: Scalar)
     ensures { λ _. ⌜ now (c .exit) ≡ update (region ld rows cols (λ i j x. start beta x)) (now (c .entry)) ⌝ }
 {
     match beta {
-        Scalar::Zero => kernel::pass::clear(c, ld, rows, cols),
+        Scalar::Zero => blocks::pass::clear(c, ld, rows, cols),
         Scalar::One => {}
-        Scalar::Other(b) => kernel::pass::scale(c, ld, rows, cols, b),
+        Scalar::Other(b) => blocks::pass::scale(c, ld, rows, cols, b),
     }
 }

@@ -3,7 +3,7 @@
 use mathlib.Core.Path.{refl}
 use Rattle.definitions.specs.Call.{inPlace, inTriangle, shapeA, shapeB, shapeC}
 use Rattle.definitions.specs.declared.Routine.the-variants.{Gemm}
-use Rattle.gemm.proofs.Rooms.{op-inside, part-room, some-term}
+use Rattle.forms.proofs.Rooms.{op-inside, part-room, some-term}
 use Rattle.gemm.proofs.StripLaws.{strip-is}
 use Rattle.gemm.proofs.Values.{gemm-value}
 use native.Mathlib.Omega.{arith}

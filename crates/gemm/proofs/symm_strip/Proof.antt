@@ -5,7 +5,7 @@ use native.Mathlib.Omega.{arith}
 use Rattle.definitions.specs.Call.{bySide, hasK, inPlace, inTriangle, order, shapeA, shapeB, shapeC}
 use Rattle.definitions.specs.declared.Routine.the-variants.{Symm}
 use Rattle.definitions.specs.declared.Side.{Side}
-use Rattle.gemm.proofs.Rooms.{mirrored-inside, plain-inside, part-room, some-factor}
+use Rattle.forms.proofs.Rooms.{mirrored-inside, plain-inside, part-room, some-factor}
 use Rattle.gemm.proofs.StripLaws.{strip-is}
 use Rattle.gemm.proofs.Values.{symm-left, symm-right}
 use borrow.Author.Needs.{needs}

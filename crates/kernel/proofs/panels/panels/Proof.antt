@@ -7,8 +7,9 @@ use lib.ListN.{length}
 use borrow.Author.Needs.{needs}
 use Rattle.arrays.specs.Update.{update, region}
 use Rattle.arrays.proofs.UpdateLaws.{length-update}
-use Rattle.kernel.specs.Factor.{entryOf, fromRow, fromColumn, partly, product}
-use Rattle.kernel.proofs.FactorLaws.{upward, along-up}
+use Rattle.packing.specs.Factor.{entryOf}
+use Rattle.kernel.specs.Product.{fromRow, fromColumn, partly, product}
+use Rattle.packing.proofs.FactorLaws.{upward, along-up}
 use Rattle.kernel.proofs.PanelLaws.{turn-below, turn-along, panel-indices, partly-none, panel-next}
 use Rattle.kernel.proofs.panels.panels.Statement.{statement}
 use Rattle.kernel.proofs.panels.panels.Tie as tie

@@ -10,9 +10,9 @@ use Rattle.arrays.specs.Update.{update, region}
 use Rattle.arrays.proofs.PartLaws.{tail-length, column-room}
 use Rattle.arrays.proofs.RegionLaws.{region-no-rows}
 use Rattle.arrays.proofs.UpdateLaws.{length-update}
-use Rattle.kernel.specs.Factor.{entryOf, along}
+use Rattle.packing.specs.Factor.{entryOf, along}
 use Rattle.kernel.specs.Product.{halfPacked}
-use Rattle.kernel.proofs.FactorLaws.{upward, up-from}
+use Rattle.packing.proofs.FactorLaws.{upward, up-from}
 use Rattle.kernel.proofs.PanelLaws.{rows-more}
 use Rattle.kernel.proofs.panels.sweep.Statement.{statement}
 use Rattle.kernel.proofs.panels.sweep.Tie as tie

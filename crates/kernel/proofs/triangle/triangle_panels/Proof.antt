@@ -8,8 +8,9 @@ use lib.ListN.{length}
 use borrow.Author.Needs.{needs}
 use Rattle.arrays.specs.Update.{update, entries, only}
 use Rattle.arrays.proofs.UpdateLaws.{length-update}
-use Rattle.kernel.specs.Factor.{entryOf, fromRow, fromColumn, partly, product, corner}
-use Rattle.kernel.proofs.FactorLaws.{upward, along-up}
+use Rattle.packing.specs.Factor.{entryOf}
+use Rattle.kernel.specs.Product.{fromRow, fromColumn, partly, product, corner}
+use Rattle.packing.proofs.FactorLaws.{upward, along-up}
 use Rattle.kernel.proofs.TriangleLaws.{corner-terms-none, corner-panel}
 use Rattle.kernel.proofs.triangle.triangle_panels.Statement.{statement}
 use Rattle.kernel.proofs.triangle.triangle_panels.Tie as tie

@@ -9,8 +9,8 @@ use borrow.Author.Needs.{needs}
 use Rattle.arrays.specs.Update.{update, entries, only}
 use Rattle.arrays.proofs.PartLaws.{tail-length, column-room}
 use Rattle.arrays.proofs.UpdateLaws.{length-update}
-use Rattle.kernel.specs.Factor.{corner}
-use Rattle.kernel.specs.Product.{packed}
+use Rattle.kernel.specs.Product.{corner}
+use Rattle.blocks.specs.Terms.{packed}
 use Rattle.kernel.proofs.TriangleLaws.{corner-none, lower-next}
 use Rattle.kernel.proofs.triangle.walk_lower.Statement.{statement}
 use Rattle.kernel.proofs.triangle.walk_lower.Tie as tie

@@ -1,0 +1,58 @@
+-- Laws of a factor's entries.
+-- Assumes nothing.
+use mathlib.Core.Bool.{Bool, true, false}
+use mathlib.Core.Path.{_≡_}
+use Prim.Native.Nat.{ℕ, _+_, _-_, _*_, _<_, _≤_}
+use native.Mathlib.Omega.{arith}
+use borrow.Author.Tests.{le-leb, lt-leb}
+use Rattle.packing.specs.Factor.{Indices, indexOf, along}
+use Rattle.packing.specs.declared.Form.{Form}
+use Rattle.packing.specs.declared.Form.the-variants.{Plain, Transposed, Lower, Upper}
+
+-- ---- where an entry stands
+
+module _ {form : Form} (ld i j : ℕ) where
+  pub index-plain : form ≡ Plain → indexOf form ld i j ≡ j * ld + i
+  unfolding indexOf
+  index-plain e = rw e
+
+  pub index-transposed : form ≡ Transposed → indexOf form ld i j ≡ i * ld + j
+  unfolding indexOf
+  index-transposed e = rw e
+
+  pub index-lower : form ≡ Lower → j ≤ i → indexOf form ld i j ≡ j * ld + i
+  unfolding indexOf
+  index-lower e h = rw (e, le-leb j i h)
+
+  pub index-lower-mirrored : form ≡ Lower → i < j → indexOf form ld i j ≡ i * ld + j
+  unfolding indexOf
+  index-lower-mirrored e h = rw (e, lt-leb j i h)
+
+  pub index-upper : form ≡ Upper → i ≤ j → indexOf form ld i j ≡ j * ld + i
+  unfolding indexOf
+  index-upper e h = rw (e, le-leb i j h)
+
+  pub index-upper-mirrored : form ≡ Upper → j < i → indexOf form ld i j ≡ i * ld + j
+  unfolding indexOf
+  index-upper-mirrored e h = rw (e, lt-leb i j h)
+
+-- ---- indices up or down
+
+pub along-up : {down : Bool} (from q : ℕ) → down ≡ false → along down from q ≡ from + q
+unfolding along
+along-up from q e = rw e
+
+pub along-down : {down : Bool} (from q : ℕ) → down ≡ true → along down from q ≡ from - q
+unfolding along
+along-down from q e = rw e
+
+-- the first indices of some
+pub fewer : {down : Bool} {from : ℕ} (n m : ℕ) → m ≤ n → Indices down from n → Indices down from m
+fewer n m h f = record { up = λ d. let b = f .up d in omega arith; back = λ d. let b = f .back d in omega arith }
+
+pub upward : (from n : ℕ) → from + n < 18446744073709551616 → Indices false from n
+upward from n h = record { up = λ _. h; back = λ d. let z : _≡_ {A = ℕ} 0 1 = cc in omega arith }
+
+pub up-from : (i₀ i y : ℕ) → along false (i₀ + i) y ≡ i₀ + (i + y)
+unfolding along
+up-from i₀ i y = omega arith

@@ -1,0 +1,116 @@
+-- Laws of packing: how a block can be read, and what a line that was copied holds.
+-- Assumes nothing.
+use mathlib.Core.Bool.{Bool, false}
+use mathlib.Core.Path.{_≡_, sym, ap, ap₂, _∙_}
+use mathlib.Core.Logic.{⊎-elim}
+use mathlib.Core.List.{List}
+use Prim.Native.Nat.{ℕ, _+_, _-_, _*_, _<_, _≤_}
+use native.Mathlib.Omega.{arith}
+use lib.ListN.{length, take, drop}
+use lib.Ieee.{Float, nan}
+use Rattle.arrays.specs.Update.{update, below, region}
+use Rattle.arrays.proofs.UpdateLaws.{lt-or-ge, below-same}
+use Rattle.arrays.proofs.PartLaws.{tail-at}
+use Rattle.arrays.proofs.RegionLaws.{region-same}
+use Rattle.floats.specs.Array.{at}
+use Rattle.packing.specs.Factor.{Reads, indexOf, entryOf, along}
+use Rattle.packing.specs.declared.Form.{Form}
+use Rattle.packing.specs.declared.Form.the-variants.{Plain, Transposed, Lower, Upper}
+use Rattle.packing.proofs.FactorLaws.{index-plain, index-transposed, index-lower, index-lower-mirrored, index-upper, index-upper-mirrored, along-up}
+
+-- ---- how a block can be read
+
+-- indices on one side of the diagonal
+module _ {down across : Bool} (i ny j nx : ℕ) (d : down ≡ false) (a : across ≡ false) where
+  below-diagonal : j + nx ≤ i + 1 → (y x : ℕ) → x < nx → along across j x ≤ along down i y
+  below-diagonal h y x hx = omega (arith, along-up i y d, along-up j x a)
+
+  above-diagonal : i + ny ≤ j + 1 → (y x : ℕ) → y < ny → along down i y ≤ along across j x
+  above-diagonal h y x hy = omega (arith, along-up i y d, along-up j x a)
+
+  -- where row and column are the same
+  on-diagonal : (ld y x : ℕ) → along across j x ≡ along down i y → along across j x * ld + along down i y ≡ along down i y * ld + (j + x)
+  on-diagonal ld y x e = ap₂ (λ (r c : ℕ). r * ld + c) e (sym e ∙ along-up j x a)
+
+module _ {form : Form} {down across : Bool} (i ny j nx : ℕ) where
+  pub reads-entries : Reads form down across i ny j nx 0
+  reads-entries = record { columns = λ z. let w : ⊥ = omega arith in absurd w; rows = λ z. let w : ⊥ = omega arith in absurd w }
+
+  by-columns : ((ld y x : ℕ) → y < ny → x < nx → indexOf form ld (along down i y) (along across j x) ≡ along across j x * ld + (i + y))
+      → Reads form down across i ny j nx 1
+  by-columns h = record { columns = λ z. h; rows = λ z. let w : ⊥ = omega arith in absurd w }
+
+  by-rows : ((ld y x : ℕ) → y < ny → x < nx → indexOf form ld (along down i y) (along across j x) ≡ along down i y * ld + (j + x))
+      → Reads form down across i ny j nx 2
+  by-rows h = record { columns = λ z. let w : ⊥ = omega arith in absurd w; rows = λ z. h }
+
+  pub reads-plain : form ≡ Plain → down ≡ false → Reads form down across i ny j nx 1
+  reads-plain e d = by-columns (λ ld y x hy hx. index-plain ld _ _ e ∙ ap (λ (r : ℕ). along across j x * ld + r) (along-up i y d))
+
+  pub reads-transposed : form ≡ Transposed → across ≡ false → Reads form down across i ny j nx 2
+  reads-transposed e d = by-rows (λ ld y x hy hx. index-transposed ld _ _ e ∙ ap (λ (r : ℕ). along down i y * ld + r) (along-up j x d))
+
+  -- a symmetric factor on one side of the diagonal
+  module _ (d : down ≡ false) (a : across ≡ false) where
+    pub lower-columns : form ≡ Lower → j + nx ≤ i + 1 → Reads form down across i ny j nx 1
+    lower-columns e h =
+        by-columns (λ ld y x hy hx. index-lower ld _ _ e (below-diagonal i ny j nx d a h y x hx) ∙ ap (λ (r : ℕ). along across j x * ld + r) (along-up i y d))
+
+    pub lower-rows : form ≡ Lower → i + ny ≤ j + 1 → Reads form down across i ny j nx 2
+    lower-rows e h =
+        by-rows
+        (λ ld y x hy hx.
+        ⊎-elim
+        (λ (b : along down i y < along across j x).
+        index-lower-mirrored ld _ _ e b ∙ ap (λ (r : ℕ). along down i y * ld + r) (along-up j x a))
+        (λ b.
+        let k = above-diagonal i ny j nx d a h y x hy in
+        index-lower ld _ _ e b ∙ on-diagonal i ny j nx d a ld y x (omega arith))
+        (lt-or-ge (along down i y) (along across j x)))
+
+    pub upper-columns : form ≡ Upper → i + ny ≤ j + 1 → Reads form down across i ny j nx 1
+    upper-columns e h =
+        by-columns (λ ld y x hy hx. index-upper ld _ _ e (above-diagonal i ny j nx d a h y x hy) ∙ ap (λ (r : ℕ). along across j x * ld + r) (along-up i y d))
+
+    pub upper-rows : form ≡ Upper → j + nx ≤ i + 1 → Reads form down across i ny j nx 2
+    upper-rows e h =
+        by-rows
+        (λ ld y x hy hx.
+        ⊎-elim
+        (λ (b : along across j x < along down i y).
+        index-upper-mirrored ld _ _ e b ∙ ap (λ (r : ℕ). along down i y * ld + r) (along-up j x a))
+        (λ b.
+        let k = below-diagonal i ny j nx d a h y x hx in
+        index-upper ld _ _ e b ∙ on-diagonal i ny j nx d a ld y x (omega arith))
+        (lt-or-ge (along across j x) (along down i y)))
+
+-- ---- a block of entries by their places
+
+pub placed : (form : Form) (a : List Float) (ld ny nx : ℕ) (I J : ℕ → ℕ) (P : ℕ → ℕ → ℕ) (d₀ d : List Float)
+    → d ≡ update (region 64 ny nx (λ y x _. at a (P y x))) d₀
+    → ((y x : ℕ) → y < ny → x < nx → indexOf form ld (I y) (J x) ≡ P y x)
+    → d ≡ update (region 64 ny nx (λ y x _. entryOf form a ld (I y) (J x))) d₀
+unfolding entryOf
+placed form a ld ny nx I J P d₀ d e h =
+    e ∙ region-same 64 ny nx _ _ d₀ (omega arith) (λ y x hy hx _. ap (at a) (sym (h y x hy hx)))
+
+-- a line that was copied from a column of the array
+pub one-line : (a : List Float) (across : Bool) (j x ld i n p : ℕ) (w ys : List Float) → p * ld ≡ along across j x * ld
+    → ys ≡ update (below n (λ y _. at (take (length a - (p * ld + i)) (drop (p * ld + i) a)) y)) w
+    → ys ≡ update (below n (λ y _. at a (along across j x * ld + (i + y)))) w
+one-line a across j x ld i n p w ys k e =
+    e
+    ∙ below-same _ _ w n
+    (λ y b _. tail-at (p * ld + i) a y nan ∙ ap (at a) (let z : p * ld + i + y ≡ along across j x * ld + (i + y) = omega arith in z))
+
+-- a column of the array that was spread over the lines, as their element y
+pub one-row : (a : List Float) (down : Bool) (i y ld j n p : ℕ) (w ys : List Float) → p * ld ≡ along down i y * ld
+    → ys ≡ update (region 64 1 n (λ r x _. at (take (length a - (p * ld + j)) (drop (p * ld + j) a)) x)) w
+    → ys ≡ update (region 64 1 n (λ r x _. at a (along down i (y + r) * ld + (j + x)))) w
+one-row a down i y ld j n p w ys k e =
+    e
+    ∙ region-same 64 1 n _ _ w (omega arith)
+    (λ r x hr hx _.
+    tail-at (p * ld + j) a x nan
+    ∙ ap (at a) (let z : p * ld + j + x ≡ along down i y * ld + (j + x) = omega arith in z)
+    ∙ ap (λ (q : ℕ). at a (along down i q * ld + (j + x))) (omega arith))

@@ -1,0 +1,41 @@
+-- The factors of a product, by the form in which an array holds them.
+--     indexOf   the place of entry (i, j) in the array: Plain and Transposed are as they say; of Lower and Upper, symmetric factors, only that
+--               triangle is read, diagonal included, and the other entries are mirrored
+--     entryOf   entry (i, j) of a factor
+--     along     the q-th index from `from` on, up or down
+--     Indices   the n indices from `from` on, up or down, are numbers of the machine
+--     Reads     how a block of ny by nx entries from (i, j) on can be read: 1, along the array's columns; 2, along its rows; else entry by entry
+use mathlib.Core.Bool.{Bool, true, false}
+use mathlib.Core.Path.{_≡_}
+use mathlib.Core.List.{List}
+use Prim.Native.Nat.{ℕ, _+_, _-_, _*_, _<_, _≤_}
+use lib.Dec.{leb}
+use lib.Ieee.{Float}
+use Rattle.arrays.specs.Choice.{if_then_else_}
+use Rattle.floats.specs.Array.{at}
+use Rattle.packing.specs.declared.Form.{Form}
+use Rattle.packing.specs.declared.Form.the-variants.{Plain, Transposed, Lower, Upper}
+
+unfoldable pub indexOf : Form → ℕ → ℕ → ℕ → ℕ
+indexOf Plain ld i j = j * ld + i
+indexOf Transposed ld i j = i * ld + j
+indexOf Lower ld i j = if leb j i then j * ld + i else i * ld + j
+indexOf Upper ld i j = if leb i j then j * ld + i else i * ld + j
+
+abbrev pub Matrix : Type 0
+Matrix = ℕ → ℕ → Float
+
+unfoldable pub entryOf : Form → List Float → ℕ → Matrix
+entryOf form a ld i j = at a (indexOf form ld i j)
+
+unfoldable pub along : Bool → ℕ → ℕ → ℕ
+along false from q = from + q
+along true from q = from - q
+
+pub record Indices (down : Bool) (from n : ℕ) : Type 0 where
+  pub up : down ≡ false → from + n < 18446744073709551616
+  pub back : down ≡ true → n ≤ from + 1
+
+pub record Reads (form : Form) (down across : Bool) (i ny j nx way : ℕ) : Type 0 where
+  pub columns : way ≡ 1 → (ld y x : ℕ) → y < ny → x < nx → indexOf form ld (along down i y) (along across j x) ≡ along across j x * ld + (i + y)
+  pub rows : way ≡ 2 → (ld y x : ℕ) → y < ny → x < nx → indexOf form ld (along down i y) (along across j x) ≡ along down i y * ld + (j + x)

@@ -1,0 +1,207 @@
+// Packing: a block of a factor into a buffer, line x and element y of the line at x * 64 + y.
+ghost use mathlib.Core.Path.{_≡_};
+ghost use Prim.Native.Nat.{ℕ, _+_, _*_, _≤_, _<_};
+ghost use lib.ListN.{length};
+ghost use Rattle.arrays.specs.Update.{update, below, region};
+ghost use Rattle.floats.specs.Array.{at};
+ghost use Rattle.packing.specs.Factor.{Indices, Reads, indexOf, entryOf, along};
+use super::Form;
+use super::factor;
+
+// A line of n entries of one column, from row i on up or down.
+fn line(
+    dest: &mut [f64],
+    n: usize,
+    form: Form,
+    a: &[f64],
+    ld: usize,
+    i: usize,
+    down: bool,
+    j: usize,
+)
+    requires { ⌜ (n ≤ length (now dest)) × Indices down i n × ((y : ℕ) → y < n → indexOf form ld (along down i y) j < length (now a)) ⌝ }
+    ensures { λ _. ⌜ now (dest .exit) ≡ update (below n (λ y x. entryOf form (now (a .entry)) ld (along down i y) j)) (now (dest .entry)) ⌝ }
+{
+    let mut y = 0;
+    while y < n {
+        let row = factor::step(down, i, y);
+        let p = factor::place(form, ld, row, j);
+        dest[y] = a[p];
+        y += 1;
+    }
+}
+
+// The elements below n, one after the other.
+fn copy(dest: &mut [f64], n: usize, a: &[f64])
+    requires { ⌜ (n ≤ length (now dest)) × (n ≤ length (now a)) ⌝ }
+    ensures { λ _. ⌜ now (dest .exit) ≡ update (below n (λ y x. at (now (a .entry)) y)) (now (dest .entry)) ⌝ }
+{
+    let mut y = 0;
+    while y < n {
+        dest[y] = a[y];
+        y += 1;
+    }
+}
+
+// The elements below n, each to a line of its own.
+fn spread(dest: &mut [f64], n: usize, a: &[f64])
+    requires { ⌜ (n * 64 < length (now dest) + 64) × (n ≤ length (now a)) ⌝ }
+    ensures { λ _. ⌜ now (dest .exit) ≡ update (region 64 1 n (λ y x _. at (now (a .entry)) x)) (now (dest .entry)) ⌝ }
+{
+    let mut x = 0;
+    while x < n {
+        dest[x * 64] = a[x];
+        x += 1;
+    }
+}
+
+// A block whose lines are parts of columns of the array, rows i and on.
+fn plain(
+    dest: &mut [f64],
+    ny: usize,
+    nx: usize,
+    a: &[f64],
+    ld: usize,
+    i: usize,
+    j: usize,
+    across: bool,
+)
+    requires { ⌜ (0 < ny) × (ny ≤ 64) × (nx * 64 ≤ length (now dest)) × Indices across j nx × ((y x : ℕ) → y < ny → x < nx → along across j x * ld + (i + y) < length (now a)) ⌝ }
+    ensures { λ _. ⌜ now (dest .exit) ≡ update (region 64 ny nx (λ y x _. at (now (a .entry)) (along across j x * ld + (i + y)))) (now (dest .entry)) ⌝ }
+{
+    let mut x = 0;
+    while x < nx {
+        let to = x * 64;
+        let column = factor::step(across, j, x);
+        let from = column * ld + i;
+        copy(&mut dest[to..], ny, &a[from..]);
+        x += 1;
+    }
+}
+
+// A block whose lines are parts of rows of the array, read column by column: columns j and on.
+fn transposed(
+    dest: &mut [f64],
+    ny: usize,
+    nx: usize,
+    a: &[f64],
+    ld: usize,
+    i: usize,
+    down: bool,
+    j: usize,
+)
+    requires { ⌜ (ny ≤ 64) × (0 < nx) × (nx * 64 ≤ length (now dest)) × Indices down i ny × ((y x : ℕ) → y < ny → x < nx → along down i y * ld + (j + x) < length (now a)) ⌝ }
+    ensures { λ _. ⌜ now (dest .exit) ≡ update (region 64 ny nx (λ y x _. at (now (a .entry)) (along down i y * ld + (j + x)))) (now (dest .entry)) ⌝ }
+{
+    let mut y = 0;
+    while y < ny {
+        let column = factor::step(down, i, y);
+        let from = column * ld + j;
+        spread(&mut dest[y..], nx, &a[from..]);
+        y += 1;
+    }
+}
+
+// A block entry by entry, in any form.
+fn lines(
+    dest: &mut [f64],
+    ny: usize,
+    nx: usize,
+    form: Form,
+    a: &[f64],
+    ld: usize,
+    i: usize,
+    down: bool,
+    j: usize,
+    across: bool,
+)
+    requires { ⌜ (ny ≤ 64) × (nx * 64 ≤ length (now dest)) × Indices down i ny × Indices across j nx × ((y x : ℕ) → y < ny → x < nx → indexOf form ld (along down i y) (along across j x) < length (now a)) ⌝ }
+    ensures { λ _. ⌜ now (dest .exit) ≡ update (region 64 ny nx (λ y x _. entryOf form (now (a .entry)) ld (along down i y) (along across j x))) (now (dest .entry)) ⌝ }
+{
+    let mut x = 0;
+    while x < nx {
+        let to = x * 64;
+        let column = factor::step(across, j, x);
+        line(&mut dest[to..], ny, form, a, ld, i, down, column);
+        x += 1;
+    }
+}
+
+// How a block can be read. A symmetric factor's block on one side of the diagonal is plain or transposed.
+fn way_of(form: Form, down: bool, across: bool, i: usize, ny: usize, j: usize, nx: usize) -> u32
+    requires { ⌜ Indices down i ny × Indices across j nx × (0 < ny) × (0 < nx) ⌝ }
+    ensures { λ r. ⌜ Reads form down across i ny j nx r ⌝ }
+{
+    match form {
+        Form::Plain => {
+            if down {
+                return 0;
+            }
+            return 1;
+        }
+        Form::Transposed => {
+            if across {
+                return 0;
+            }
+            return 2;
+        }
+        Form::Lower => {
+            if down {
+                return 0;
+            }
+            if across {
+                return 0;
+            }
+            if j + nx <= i + 1 {
+                return 1;
+            }
+            if i + ny <= j + 1 {
+                return 2;
+            }
+            return 0;
+        }
+        Form::Upper => {
+            if down {
+                return 0;
+            }
+            if across {
+                return 0;
+            }
+            if i + ny <= j + 1 {
+                return 1;
+            }
+            if j + nx <= i + 1 {
+                return 2;
+            }
+            return 0;
+        }
+    }
+}
+
+// A block of ny by nx entries of a factor: line x is column j + x, or j - x where `across` is down, and its element y in row i + y or i - y.
+pub fn pack(
+    dest: &mut [f64],
+    ny: usize,
+    nx: usize,
+    form: Form,
+    a: &[f64],
+    ld: usize,
+    i: usize,
+    down: bool,
+    j: usize,
+    across: bool,
+)
+    requires { ⌜ (0 < ny) × (ny ≤ 64) × (0 < nx) × (nx * 64 ≤ length (now dest)) × Indices down i ny × Indices across j nx × ((y x : ℕ) → y < ny → x < nx → indexOf form ld (along down i y) (along across j x) < length (now a)) ⌝ }
+    ensures { λ _. ⌜ now (dest .exit) ≡ update (region 64 ny nx (λ y x _. entryOf form (now (a .entry)) ld (along down i y) (along across j x))) (now (dest .entry)) ⌝ }
+{
+    let way = way_of(form, down, across, i, ny, j, nx);
+    if way == 1 {
+        plain(dest, ny, nx, a, ld, i, j, across);
+        return;
+    }
+    if way == 2 {
+        transposed(dest, ny, nx, a, ld, i, down, j);
+        return;
+    }
+    lines(dest, ny, nx, form, a, ld, i, down, j, across);
+}
