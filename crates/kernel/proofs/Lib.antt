@@ -1,2 +1,3 @@
 pub mod PanelLaws
+pub mod DirectLaws
 pub mod TriangleLaws

@@ -10,6 +10,7 @@ use lib.Ieee.{Float, nan}
 use borrow.Rule.Slice.PartMut.{putMid}
 use Rattle.arrays.specs.Update.{update, region}
 use Rattle.arrays.proofs.UpdateLaws.{at-update}
+use Rattle.arrays.proofs.PartLaws.{column-room}
 use Rattle.arrays.proofs.RegionLaws.{region-at, region-keep, region-same, region-then, region-rows}
 use Rattle.floats.specs.Operations.{_⊗_}
 use Rattle.floats.specs.Array.{at}
@@ -21,11 +22,11 @@ use Rattle.packing.proofs.FactorLaws.{along-up}
 use Rattle.blocks.proofs.TermLaws.{accumulate-none, accumulate-same, accumulate-split}
 
 -- what a buffer holds after packing: line x, element y
-pub held : (ny nx : ℕ) (M : Matrix) (d₀ d : List Float) (y x : ℕ) → ny ≤ 64 → nx * 64 ≤ length d₀ → d ≡ update (region 64 ny nx (λ y x _. M y x)) d₀
-    → y < ny → x < nx → at d (x * 64 + y) ≡ M y x
-held ny nx M d₀ d y x hn hl e hy hx =
-    ap (λ (l : List Float). at l (x * 64 + y)) e ∙ at-update _ d₀ (x * 64 + y) nan (omega arith)
-    ∙ region-at 64 ny nx (λ y x _. M y x) y x _ (omega arith) hy hx
+pub held : (ld ny nx : ℕ) (M : Matrix) (d₀ d : List Float) (y x : ℕ) → ny ≤ ld → nx * ld ≤ length d₀ → d ≡ update (region ld ny nx (λ y x _. M y x)) d₀
+    → y < ny → x < nx → at d (x * ld + y) ≡ M y x
+held ld ny nx M d₀ d y x hn hl e hy hx =
+    ap (λ (l : List Float). at l (x * ld + y)) e ∙ at-update _ d₀ (x * ld + y) nan (omega (arith, column-room ld hx))
+    ∙ region-at ld ny nx (λ y x _. M y x) y x _ (omega arith) hy hx
 
 -- a block of h rows more: it is packed in u
 pub rows-more : (ld i h cols n : ℕ) (M L : Matrix) (u₀ u t l m ys : List Float)
@@ -39,7 +40,7 @@ unfolding packed halfPacked
 rows-more ld i h cols n M L u₀ u t l m ys pos il ll hh hu eu el em ey =
     region-rows nan ld pos i h cols (halfPacked n t L) l m ys il ll em
     (ey ∙ region-same ld h cols (packed n u t) (λ r j e. halfPacked n t L (i + r) j e) (take (length m - i) (drop i m)) pos
-    (λ r j hr hj e. accumulate-same _ _ _ _ n e (λ q b. refl) (λ q b. held h n M u₀ u r q hh hu eu hr b ∙ el r q)))
+    (λ r j hr hj e. accumulate-same _ _ _ _ n e (λ q b. refl) (λ q b. held 64 h n M u₀ u r q hh hu eu hr b ∙ el r q)))
 
 -- ---- a panel that begins with the l-th of k terms
 
@@ -111,7 +112,7 @@ module _ (alpha : Float) (fa : Form) (a : List Float) (lda i₀ : ℕ) (fb : For
   panel-next l n l₀ c₀ t₀ t₁ t m r pos hn hl e em e₁ et er =
       panel-more alpha A B down k ld rows cols c₀ pos l n t (λ i q. entryOf fa a lda (i₀ + i) (along down l₀ q)) m r em er
       (λ q j hq hj.
-      held n cols (λ q j. alpha ⊗ entryOf fb b ldb (along down l₀ q) (along false j₀ j)) t₀ t q j hn hl
+      held 64 n cols (λ q j. alpha ⊗ entryOf fb b ldb (along down l₀ q) (along false j₀ j)) t₀ t q j hn hl
       (scaled alpha n cols (λ y x. entryOf fb b ldb (along down l₀ y) (along false j₀ x)) t₀ t₁ t e₁ et) hq hj
       ∙ ap₂ (λ (x y : ℕ). alpha ⊗ entryOf fb b ldb x y) (turn-along down k l q e) (along-up j₀ j refl))
       (λ i q. ap (λ (x : ℕ). entryOf fa a lda (i₀ + i) x) (turn-along down k l q e))

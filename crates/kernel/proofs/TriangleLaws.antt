@@ -151,10 +151,10 @@ module _ (lower : Bool) (alpha : Float) (fa : Form) (a : List Float) (lda i₀ :
       let w = inside-corner lower order order i j h in
       accumulate-same _ _ _ _ n _
       (λ q hq.
-      held n order (λ q j. alpha ⊗ entryOf fb b ldb (along false l q) (along false j₀ j)) t₀ t q j hn ht
+      held 64 n order (λ q j. alpha ⊗ entryOf fb b ldb (along false l q) (along false j₀ j)) t₀ t q j hn ht
       (scaled alpha n order (λ y x. entryOf fb b ldb (along false l y) (along false j₀ x)) t₀ t₁ t e₁ et) hq (w .1)
       ∙ ap₂ (λ (x y : ℕ). alpha ⊗ entryOf fb b ldb x y) (turn-along false k l q (sym (turn-up k l refl))) (along-up j₀ j refl))
       (λ q hq.
-      held order n (λ y x. entryOf fa a lda (along false i₀ y) (along false l x)) u₀ u i q ho hu eu (w .0) hq
+      held 64 order n (λ y x. entryOf fa a lda (along false i₀ y) (along false l x)) u₀ u i q ho hu eu (w .0) hq
       ∙ ap₂ (λ (x y : ℕ). entryOf fa a lda x y) (along-up i₀ i refl) (turn-along false k l q (sym (turn-up k l refl))))
       ∙ accumulate-split (λ q. alpha ⊗ entryOf fb b ldb (turn false k q) (j₀ + j)) (λ q. entryOf fa a lda (i₀ + i) (turn false k q)) l n x)

@@ -4,6 +4,8 @@
 --     partly      the same, after n of the k terms
 --     halfPacked  entry (i, j) of a product whose left factor is L, by row and term, and whose right block is packed: column j, term q, already times
 --                 alpha, at j * 64 + q of t
+--     strided     a factor that is read by two strides: entry (i, j) is element i * r + j * c
+--     rowStride, columnStride   the strides of a form
 --     corner      the mask of a triangle, diagonal included, in the rows below `rows` and the columns below `cols`
 use mathlib.Core.Bool.{Bool, true, false, _&&_}
 use mathlib.Core.List.{List}
@@ -16,6 +18,8 @@ use Rattle.floats.specs.Array.{at}
 use Rattle.floats.specs.Operations.{_⊗_}
 use Rattle.blocks.specs.Terms.{accumulate}
 use Rattle.packing.specs.Factor.{Matrix}
+use Rattle.packing.specs.declared.Form.{Form}
+use Rattle.packing.specs.declared.Form.the-variants.{Plain, Transposed, Lower, Upper}
 
 unfoldable pub turn : Bool → ℕ → ℕ → ℕ
 turn false k q = q
@@ -29,6 +33,22 @@ product alpha L R down k = partly alpha L R down k k
 
 unfoldable pub halfPacked : ℕ → List Float → (ℕ → ℕ → Float) → EntryMap Float
 halfPacked n t L i j e = accumulate (λ q. at t (j * 64 + q)) (λ q. L i q) n e
+
+unfoldable pub strided : List Float → ℕ → ℕ → Matrix
+strided a r c i j = at a (i * r + j * c)
+
+-- (Of a form that is not mirrored.)
+abbrev pub rowStride : Form → ℕ → ℕ
+rowStride Plain ld = 1
+rowStride Transposed ld = ld
+rowStride Lower ld = 0
+rowStride Upper ld = 0
+
+abbrev pub columnStride : Form → ℕ → ℕ
+columnStride Plain ld = ld
+columnStride Transposed ld = 1
+columnStride Lower ld = 0
+columnStride Upper ld = 0
 
 -- the rows of a factor from i₀ on, and its columns from j₀ on
 abbrev pub fromRow : ℕ → Matrix → Matrix

@@ -6,6 +6,7 @@ ghost use Rattle.arrays.specs.Update.{update, region};
 ghost use Rattle.packing.specs.Factor.{indexOf, entryOf};
 ghost use Rattle.kernel.specs.Product.{fromRow, fromColumn, product};
 
+pub mod direct;
 pub mod panels;
 pub mod triangle;
 
@@ -36,6 +37,48 @@ pub fn multiply(
     requires { ⌜ ((i l : ℕ) → i < rows → l < k → indexOf fa lda (i0 + i) l < length (now a)) × ((l j : ℕ) → l < k → j < cols → indexOf fb ldb l (j0 + j) < length (now b)) ⌝ }
     ensures { λ _. ⌜ now (c .exit) ≡ update (region ld rows cols (product alpha (fromRow i0 (entryOf fa (now (a .entry)) lda)) (fromColumn j0 (entryOf fb (now (b .entry)) ldb)) down k)) (now (c .entry)) ⌝ }
 {
+    if direct::is_tiny(fa, fb, rows, cols, k) {
+        direct::direct(
+            c,
+            ld,
+            rows,
+            cols,
+            k,
+            fa,
+            a,
+            lda,
+            i0,
+            fb,
+            b,
+            ldb,
+            j0,
+            alpha,
+            down,
+        );
+        return;
+    }
+    // Two calls, so that the compiler keeps the buffers out of the frame in which a tiny product runs.
+    if down {
+        panels::blocked(
+            c,
+            ld,
+            rows,
+            cols,
+            k,
+            fa,
+            a,
+            lda,
+            i0,
+            fb,
+            b,
+            ldb,
+            j0,
+            alpha,
+            true,
+            r,
+        );
+        return;
+    }
     panels::blocked(
         c,
         ld,
@@ -51,7 +94,7 @@ pub fn multiply(
         ldb,
         j0,
         alpha,
-        down,
+        false,
         r,
     );
 }

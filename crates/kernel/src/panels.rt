@@ -19,9 +19,9 @@ pub fn smaller(x: usize, y: usize) -> usize
 }
 
 // The index of the term that comes q-th of k.
-fn turn_of(down: bool, k: usize, q: usize) -> usize
+pub fn turn_of(down: bool, k: usize, q: usize) -> usize
     requires { ⌜ q < k ⌝ }
-    ensures { λ r. ⌜ r ≡ turn down k q ⌝ }
+    ensures { λ r. ⌜ (r ≡ turn down k q) × (r < k) ⌝ }
 {
     if down { k - 1 - q } else { q }
 }

@@ -1,11 +1,11 @@
 -- Laws of a factor's entries.
 -- Assumes nothing.
-use mathlib.Core.Bool.{Bool, true, false}
-use mathlib.Core.Path.{_≡_}
+use mathlib.Core.Bool.{Bool, true, false, true≢false}
+use mathlib.Core.Path.{_≡_, refl, sym}
 use Prim.Native.Nat.{ℕ, _+_, _-_, _*_, _<_, _≤_}
 use native.Mathlib.Omega.{arith}
 use borrow.Author.Tests.{le-leb, lt-leb}
-use Rattle.packing.specs.Factor.{Indices, indexOf, along}
+use Rattle.packing.specs.Factor.{Indices, isMirrored, isLower, mirroredForm, indexOf, along}
 use Rattle.packing.specs.declared.Form.{Form}
 use Rattle.packing.specs.declared.Form.the-variants.{Plain, Transposed, Lower, Upper}
 
@@ -35,6 +35,13 @@ module _ {form : Form} (ld i j : ℕ) where
   pub index-upper-mirrored : form ≡ Upper → j < i → indexOf form ld i j ≡ i * ld + j
   unfolding indexOf
   index-upper-mirrored e h = rw (e, lt-leb i j h)
+
+-- the form by its triangle
+pub by-triangle : (form : Form) → isMirrored form ≡ true → mirroredForm (isLower form) ≡ form
+by-triangle Plain e = absurd (true≢false (sym e))
+by-triangle Transposed e = absurd (true≢false (sym e))
+by-triangle Lower e = refl
+by-triangle Upper e = refl
 
 -- ---- indices up or down
 

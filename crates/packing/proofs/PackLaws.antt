@@ -1,6 +1,6 @@
 -- Laws of packing: how a block can be read, and what a line that was copied holds.
 -- Assumes nothing.
-use mathlib.Core.Bool.{Bool, false}
+use mathlib.Core.Bool.{Bool, true, false}
 use mathlib.Core.Path.{_≡_, sym, ap, ap₂, _∙_}
 use mathlib.Core.Logic.{⊎-elim}
 use mathlib.Core.List.{List}
@@ -13,12 +13,24 @@ use Rattle.arrays.proofs.UpdateLaws.{lt-or-ge, below-same}
 use Rattle.arrays.proofs.PartLaws.{tail-at}
 use Rattle.arrays.proofs.RegionLaws.{region-same}
 use Rattle.floats.specs.Array.{at}
-use Rattle.packing.specs.Factor.{Reads, indexOf, entryOf, along}
+use Rattle.packing.specs.Factor.{Reads, isMirrored, isLower, mirroredForm, indexOf, entryOf, along}
 use Rattle.packing.specs.declared.Form.{Form}
 use Rattle.packing.specs.declared.Form.the-variants.{Plain, Transposed, Lower, Upper}
-use Rattle.packing.proofs.FactorLaws.{index-plain, index-transposed, index-lower, index-lower-mirrored, index-upper, index-upper-mirrored, along-up}
+use Rattle.packing.specs.declared.Way.{Way}
+use Rattle.packing.specs.declared.Way.the-variants.{Columns, Rows, Mirrored, Entries}
+use Rattle.packing.proofs.FactorLaws.{index-plain, index-transposed, index-lower, index-lower-mirrored, index-upper, index-upper-mirrored, by-triangle, along-up}
 
 -- ---- how a block can be read
+
+abbrev number : Way → ℕ
+number Columns = 0
+number Rows = 1
+number Mirrored = 2
+number Entries = 3
+
+-- two ways with different numbers are not the same
+distinct : {v w : Way} → v ≡ w → number v ≡ number w
+distinct e = ap number e
 
 -- indices on one side of the diagonal
 module _ {down across : Bool} (i ny j nx : ℕ) (d : down ≡ false) (a : across ≡ false) where
@@ -33,30 +45,33 @@ module _ {down across : Bool} (i ny j nx : ℕ) (d : down ≡ false) (a : across
   on-diagonal ld y x e = ap₂ (λ (r c : ℕ). r * ld + c) e (sym e ∙ along-up j x a)
 
 module _ {form : Form} {down across : Bool} (i ny j nx : ℕ) where
-  pub reads-entries : Reads form down across i ny j nx 0
-  reads-entries = record { columns = λ z. let w : ⊥ = omega arith in absurd w; rows = λ z. let w : ⊥ = omega arith in absurd w }
+  pub reads-entries : Reads form down across i ny j nx Entries
+  reads-entries = record { columns = λ z. let w = distinct z in absurd (let f : ⊥ = omega arith in f); rows = λ z. let w = distinct z in absurd (let f : ⊥ = omega arith in f); mirrored = λ z. let w = distinct z in absurd (let f : ⊥ = omega arith in f) }
 
   by-columns : ((ld y x : ℕ) → y < ny → x < nx → indexOf form ld (along down i y) (along across j x) ≡ along across j x * ld + (i + y))
-      → Reads form down across i ny j nx 1
-  by-columns h = record { columns = λ z. h; rows = λ z. let w : ⊥ = omega arith in absurd w }
+      → Reads form down across i ny j nx Columns
+  by-columns h = record { columns = λ z. h; rows = λ z. let w = distinct z in absurd (let f : ⊥ = omega arith in f); mirrored = λ z. let w = distinct z in absurd (let f : ⊥ = omega arith in f) }
 
   by-rows : ((ld y x : ℕ) → y < ny → x < nx → indexOf form ld (along down i y) (along across j x) ≡ along down i y * ld + (j + x))
-      → Reads form down across i ny j nx 2
-  by-rows h = record { columns = λ z. let w : ⊥ = omega arith in absurd w; rows = λ z. h }
+      → Reads form down across i ny j nx Rows
+  by-rows h = record { columns = λ z. let w = distinct z in absurd (let f : ⊥ = omega arith in f); rows = λ z. h; mirrored = λ z. let w = distinct z in absurd (let f : ⊥ = omega arith in f) }
 
-  pub reads-plain : form ≡ Plain → down ≡ false → Reads form down across i ny j nx 1
+  pub reads-mirrored : isMirrored form ≡ true → down ≡ false → across ≡ false → Reads form down across i ny j nx Mirrored
+  reads-mirrored e d a = record { columns = λ z. let w = distinct z in absurd (let f : ⊥ = omega arith in f); rows = λ z. let w = distinct z in absurd (let f : ⊥ = omega arith in f); mirrored = λ z. (e, d, a) }
+
+  pub reads-plain : form ≡ Plain → down ≡ false → Reads form down across i ny j nx Columns
   reads-plain e d = by-columns (λ ld y x hy hx. index-plain ld _ _ e ∙ ap (λ (r : ℕ). along across j x * ld + r) (along-up i y d))
 
-  pub reads-transposed : form ≡ Transposed → across ≡ false → Reads form down across i ny j nx 2
+  pub reads-transposed : form ≡ Transposed → across ≡ false → Reads form down across i ny j nx Rows
   reads-transposed e d = by-rows (λ ld y x hy hx. index-transposed ld _ _ e ∙ ap (λ (r : ℕ). along down i y * ld + r) (along-up j x d))
 
   -- a symmetric factor on one side of the diagonal
   module _ (d : down ≡ false) (a : across ≡ false) where
-    pub lower-columns : form ≡ Lower → j + nx ≤ i + 1 → Reads form down across i ny j nx 1
+    pub lower-columns : form ≡ Lower → j + nx ≤ i + 1 → Reads form down across i ny j nx Columns
     lower-columns e h =
         by-columns (λ ld y x hy hx. index-lower ld _ _ e (below-diagonal i ny j nx d a h y x hx) ∙ ap (λ (r : ℕ). along across j x * ld + r) (along-up i y d))
 
-    pub lower-rows : form ≡ Lower → i + ny ≤ j + 1 → Reads form down across i ny j nx 2
+    pub lower-rows : form ≡ Lower → i + ny ≤ j + 1 → Reads form down across i ny j nx Rows
     lower-rows e h =
         by-rows
         (λ ld y x hy hx.
@@ -68,11 +83,11 @@ module _ {form : Form} {down across : Bool} (i ny j nx : ℕ) where
         index-lower ld _ _ e b ∙ on-diagonal i ny j nx d a ld y x (omega arith))
         (lt-or-ge (along down i y) (along across j x)))
 
-    pub upper-columns : form ≡ Upper → i + ny ≤ j + 1 → Reads form down across i ny j nx 1
+    pub upper-columns : form ≡ Upper → i + ny ≤ j + 1 → Reads form down across i ny j nx Columns
     upper-columns e h =
         by-columns (λ ld y x hy hx. index-upper ld _ _ e (above-diagonal i ny j nx d a h y x hy) ∙ ap (λ (r : ℕ). along across j x * ld + r) (along-up i y d))
 
-    pub upper-rows : form ≡ Upper → j + nx ≤ i + 1 → Reads form down across i ny j nx 2
+    pub upper-rows : form ≡ Upper → j + nx ≤ i + 1 → Reads form down across i ny j nx Rows
     upper-rows e h =
         by-rows
         (λ ld y x hy hx.
@@ -84,6 +99,13 @@ module _ {form : Form} {down across : Bool} (i ny j nx : ℕ) where
         index-upper ld _ _ e b ∙ on-diagonal i ny j nx d a ld y x (omega arith))
         (lt-or-ge (along across j x) (along down i y)))
 
+-- a block that is mirrored from one triangle
+pub mirrored-index : (form : Form) {lower down across : Bool} (ld i j y x : ℕ) → lower ≡ isLower form → (isMirrored form ≡ true) × (down ≡ false) × (across ≡ false)
+    → indexOf form ld (along down i y) (along across j x) ≡ indexOf (mirroredForm lower) ld (i + y) (j + x)
+mirrored-index form ld i j y x e h =
+    ap₂ (λ (r c : ℕ). indexOf form ld r c) (along-up i y (h .1)) (along-up j x (h .2))
+    ∙ ap (λ (f : Form). indexOf f ld (i + y) (j + x)) (sym (ap mirroredForm e ∙ by-triangle form (h .0)))
+
 -- ---- a block of entries by their places
 
 pub placed : (form : Form) (a : List Float) (ld ny nx : ℕ) (I J : ℕ → ℕ) (P : ℕ → ℕ → ℕ) (d₀ d : List Float)
@@ -93,6 +115,16 @@ pub placed : (form : Form) (a : List Float) (ld ny nx : ℕ) (I J : ℕ → ℕ)
 unfolding entryOf
 placed form a ld ny nx I J P d₀ d e h =
     e ∙ region-same 64 ny nx _ _ d₀ (omega arith) (λ y x hy hx _. ap (at a) (sym (h y x hy hx)))
+
+-- a block that was mirrored
+pub mirrored-block : (form : Form) (a : List Float) {lower down across : Bool} (ld ny nx i j : ℕ) (d₀ d : List Float) → lower ≡ isLower form
+    → (isMirrored form ≡ true) × (down ≡ false) × (across ≡ false)
+    → d ≡ update (region 64 ny nx (λ y x _. entryOf (mirroredForm lower) a ld (i + y) (j + x))) d₀
+    → d ≡ update (region 64 ny nx (λ y x _. entryOf form a ld (along down i y) (along across j x))) d₀
+unfolding entryOf
+mirrored-block form a {lower} {down} {across} ld ny nx i j d₀ d e h ed =
+    placed form a ld ny nx (λ y. along down i y) (λ x. along across j x) (λ y x. indexOf (mirroredForm lower) ld (i + y) (j + x)) d₀ d ed
+    (λ y x hy hx. mirrored-index form ld i j y x e h)
 
 -- a line that was copied from a column of the array
 pub one-line : (a : List Float) (across : Bool) (j x ld i n p : ℕ) (w ys : List Float) → p * ld ≡ along across j x * ld

@@ -4,7 +4,8 @@
 --     entryOf   entry (i, j) of a factor
 --     along     the q-th index from `from` on, up or down
 --     Indices   the n indices from `from` on, up or down, are numbers of the machine
---     Reads     how a block of ny by nx entries from (i, j) on can be read: 1, along the array's columns; 2, along its rows; else entry by entry
+--     isMirrored, isLower, mirroredForm   a form that mirrors a triangle, and which one
+--     Reads     a way in which the block of ny by nx entries from (i, j) on can be read
 use mathlib.Core.Bool.{Bool, true, false}
 use mathlib.Core.Path.{_≡_}
 use mathlib.Core.List.{List}
@@ -15,6 +16,8 @@ use Rattle.arrays.specs.Choice.{if_then_else_}
 use Rattle.floats.specs.Array.{at}
 use Rattle.packing.specs.declared.Form.{Form}
 use Rattle.packing.specs.declared.Form.the-variants.{Plain, Transposed, Lower, Upper}
+use Rattle.packing.specs.declared.Way.{Way}
+use Rattle.packing.specs.declared.Way.the-variants.{Columns, Rows, Mirrored}
 
 unfoldable pub indexOf : Form → ℕ → ℕ → ℕ → ℕ
 indexOf Plain ld i j = j * ld + i
@@ -36,6 +39,23 @@ pub record Indices (down : Bool) (from n : ℕ) : Type 0 where
   pub up : down ≡ false → from + n < 18446744073709551616
   pub back : down ≡ true → n ≤ from + 1
 
-pub record Reads (form : Form) (down across : Bool) (i ny j nx way : ℕ) : Type 0 where
-  pub columns : way ≡ 1 → (ld y x : ℕ) → y < ny → x < nx → indexOf form ld (along down i y) (along across j x) ≡ along across j x * ld + (i + y)
-  pub rows : way ≡ 2 → (ld y x : ℕ) → y < ny → x < nx → indexOf form ld (along down i y) (along across j x) ≡ along down i y * ld + (j + x)
+abbrev pub isMirrored : Form → Bool
+isMirrored Plain = false
+isMirrored Transposed = false
+isMirrored Lower = true
+isMirrored Upper = true
+
+abbrev pub isLower : Form → Bool
+isLower Plain = false
+isLower Transposed = false
+isLower Lower = true
+isLower Upper = false
+
+abbrev pub mirroredForm : Bool → Form
+mirroredForm true = Lower
+mirroredForm false = Upper
+
+pub record Reads (form : Form) (down across : Bool) (i ny j nx : ℕ) (way : Way) : Type 0 where
+  pub columns : way ≡ Columns → (ld y x : ℕ) → y < ny → x < nx → indexOf form ld (along down i y) (along across j x) ≡ along across j x * ld + (i + y)
+  pub rows : way ≡ Rows → (ld y x : ℕ) → y < ny → x < nx → indexOf form ld (along down i y) (along across j x) ≡ along down i y * ld + (j + x)
+  pub mirrored : way ≡ Mirrored → (isMirrored form ≡ true) × (down ≡ false) × (across ≡ false)

@@ -6,7 +6,9 @@ ghost use Rattle.arrays.specs.Update.{update, below, region};
 ghost use Rattle.floats.specs.Array.{at};
 ghost use Rattle.packing.specs.Factor.{Indices, Reads, indexOf, entryOf, along};
 use super::Form;
+use super::Way;
 use super::factor;
+use super::mirror;
 
 // A line of n entries of one column, from row i on up or down.
 fn line(
@@ -128,52 +130,52 @@ fn lines(
 }
 
 // How a block can be read. A symmetric factor's block on one side of the diagonal is plain or transposed.
-fn way_of(form: Form, down: bool, across: bool, i: usize, ny: usize, j: usize, nx: usize) -> u32
+fn way_of(form: Form, down: bool, across: bool, i: usize, ny: usize, j: usize, nx: usize) -> Way
     requires { ⌜ Indices down i ny × Indices across j nx × (0 < ny) × (0 < nx) ⌝ }
     ensures { λ r. ⌜ Reads form down across i ny j nx r ⌝ }
 {
     match form {
         Form::Plain => {
             if down {
-                return 0;
+                return Way::Entries;
             }
-            return 1;
+            return Way::Columns;
         }
         Form::Transposed => {
             if across {
-                return 0;
+                return Way::Entries;
             }
-            return 2;
+            return Way::Rows;
         }
         Form::Lower => {
             if down {
-                return 0;
+                return Way::Entries;
             }
             if across {
-                return 0;
+                return Way::Entries;
             }
             if j + nx <= i + 1 {
-                return 1;
+                return Way::Columns;
             }
             if i + ny <= j + 1 {
-                return 2;
+                return Way::Rows;
             }
-            return 0;
+            return Way::Mirrored;
         }
         Form::Upper => {
             if down {
-                return 0;
+                return Way::Entries;
             }
             if across {
-                return 0;
+                return Way::Entries;
             }
             if i + ny <= j + 1 {
-                return 1;
+                return Way::Columns;
             }
             if j + nx <= i + 1 {
-                return 2;
+                return Way::Rows;
             }
-            return 0;
+            return Way::Mirrored;
         }
     }
 }
@@ -195,13 +197,13 @@ pub fn pack(
     ensures { λ _. ⌜ now (dest .exit) ≡ update (region 64 ny nx (λ y x _. entryOf form (now (a .entry)) ld (along down i y) (along across j x))) (now (dest .entry)) ⌝ }
 {
     let way = way_of(form, down, across, i, ny, j, nx);
-    if way == 1 {
-        plain(dest, ny, nx, a, ld, i, j, across);
-        return;
+    match way {
+        Way::Columns => plain(dest, ny, nx, a, ld, i, j, across),
+        Way::Rows => transposed(dest, ny, nx, a, ld, i, down, j),
+        Way::Mirrored => {
+            let lower = mirror::is_lower(form);
+            mirror::block(dest, 64, ny, nx, lower, a, ld, i, j);
+        }
+        Way::Entries => lines(dest, ny, nx, form, a, ld, i, down, j, across),
     }
-    if way == 2 {
-        transposed(dest, ny, nx, a, ld, i, down, j);
-        return;
-    }
-    lines(dest, ny, nx, form, a, ld, i, down, j, across);
 }

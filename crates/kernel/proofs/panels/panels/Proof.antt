@@ -61,10 +61,10 @@ pack-requires c κs = (
   omega (arith, turn (c .before .before)),
   omega arith,
   omega arith,
-  panel-indices _ _ _ _ (omega arith) (omega (arith, turn (c .before .before))) (omega arith) (c .before .turn-of .ensures),
+  panel-indices _ _ _ _ (omega arith) (omega (arith, turn (c .before .before))) (omega arith) (c .before .turn-of .ensures .0),
   upward _ _ (omega arith),
   λ y x hy hx.
-      rw (turn-along (c .before .before .before .before .before .before .before .before .before .before .args .down) (c .before .before .before .before .before .before .before .before .before .before .args .k) (c .before .before .before .before .loop .l) y (c .before .turn-of .ensures), along-up (c .before .before .before .before .before .before .before .before .before .before .args .j0) x refl)
+      rw (turn-along (c .before .before .before .before .before .before .before .before .before .before .args .down) (c .before .before .before .before .before .before .before .before .before .before .args .k) (c .before .before .before .before .loop .l) y (c .before .turn-of .ensures .0), along-up (c .before .before .before .before .before .before .before .before .before .before .args .j0) x refl)
       (c .before .before .before .before .before .before .before .before .before .before .pre .1 .1 .1 _ x (turn-below (c .before .before .before .before .before .before .before .before .before .before .args .down) (c .before .before .before .before .before .before .before .before .before .before .args .k) (c .before .before .before .before .loop .l + y) (omega (arith, turn (c .before .before)))) hx),
 )
 
@@ -83,10 +83,10 @@ sweep-requires c κs =
           omega arith,
           omega arith,
           omega arith,
-          panel-indices _ _ _ _ (omega (arith, turn (c .before .before .before .before .before .before .before .before .before .before .before .before))) (omega (arith, turn (c .before .before .before .before .before .before .before .before .before .before .before .before))) (omega arith) (c .before .before .before .before .before .before .before .before .before .before .before .turn-of .ensures),
+          panel-indices _ _ _ _ (omega (arith, turn (c .before .before .before .before .before .before .before .before .before .before .before .before))) (omega (arith, turn (c .before .before .before .before .before .before .before .before .before .before .before .before))) (omega arith) (c .before .before .before .before .before .before .before .before .before .before .before .turn-of .ensures .0),
         ),
         λ i q hi hq.
-            rw (turn-along (c .before .before .before .before .before .before .before .before .before .before .before .before .before .before .before .before .before .before .before .before .args .down) (c .before .before .before .before .before .before .before .before .before .before .before .before .before .before .before .before .before .before .before .before .args .k) (c .before .before .before .before .before .before .before .before .before .before .before .before .before .before .loop .l) q (c .before .before .before .before .before .before .before .before .before .before .before .turn-of .ensures))
+            rw (turn-along (c .before .before .before .before .before .before .before .before .before .before .before .before .before .before .before .before .before .before .before .before .args .down) (c .before .before .before .before .before .before .before .before .before .before .before .before .before .before .before .before .before .before .before .before .args .k) (c .before .before .before .before .before .before .before .before .before .before .before .before .before .before .loop .l) q (c .before .before .before .before .before .before .before .before .before .before .before .turn-of .ensures .0))
             (c .before .before .before .before .before .before .before .before .before .before .before .before .before .before .before .before .before .before .before .before .pre .1 .1 .0 i _ hi (turn-below (c .before .before .before .before .before .before .before .before .before .before .before .before .before .before .before .before .before .before .before .before .args .down) (c .before .before .before .before .before .before .before .before .before .before .before .before .before .before .before .before .before .before .before .before .args .k) (c .before .before .before .before .before .before .before .before .before .before .before .before .before .before .loop .l + q) (omega (arith, turn (c .before .before .before .before .before .before .before .before .before .before .before .before))))),
       ),
     )
@@ -101,7 +101,7 @@ loop-again : tie.Need-loop-again Inv-loop μ-loop
 loop-again c =
     let n = turn (c .before .before .before .before .before .before .before .before .before .before .before .before .before .before .before .before .before) in
     let e =
-    panel-next _ _ _ _ _ _ _ _ _ _ _ _ _ _ _ _ _ _ _ _ _ _ _ (omega (arith, n)) (omega (arith, n)) (omega (arith, n)) (c .before .before .before .before .before .before .before .before .before .before .before .before .before .before .before .before .turn-of .ensures)
+    panel-next _ _ _ _ _ _ _ _ _ _ _ _ _ _ _ _ _ _ _ _ _ _ _ (omega (arith, n)) (omega (arith, n)) (omega (arith, n)) (c .before .before .before .before .before .before .before .before .before .before .before .before .before .before .before .before .turn-of .ensures .0)
     (c .before .before .before .before .before .before .before .before .before .before .before .before .before .before .before .before .before .before .before .loop .inv .4) (c .before .before .before .before .before .before .before .before .before .before .before .before .before .before .pack .ensures) (c .before .before .before .before .before .before .before .before .before .before .scale .ensures) (c .before .before .before .before .sweep .ensures .0) in (
       omega (arith, n),
       ap length e ∙ length-update _ _,

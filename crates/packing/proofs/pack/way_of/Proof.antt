@@ -1,8 +1,9 @@
 -- `pack::way_of` meets its contract: a case for each form and each side of the diagonal.
 -- Assumes nothing.
+use mathlib.Core.Path.{refl}
 use native.Mathlib.Omega.{arith}
 use borrow.Author.Needs.{needs}
-use Rattle.packing.proofs.PackLaws.{reads-entries, reads-plain, reads-transposed, lower-columns, lower-rows, upper-columns, upper-rows}
+use Rattle.packing.proofs.PackLaws.{reads-entries, reads-mirrored, reads-plain, reads-transposed, lower-columns, lower-rows, upper-columns, upper-rows}
 use Rattle.packing.proofs.pack.way_of.Statement.{statement}
 use Rattle.packing.proofs.pack.way_of.Tie as tie
 
@@ -52,7 +53,7 @@ returns-8 : tie.Need-returns-8
 returns-8 c = lower-rows _ _ _ _ (c .before .before .before .if3 .left) (c .before .before .if4 .left) (c .before .before .before .before .enum-told3 .given .1) (c .if6 .taken)
 
 returns-9 : tie.Need-returns-9
-returns-9 c = reads-entries _ _ _ _
+returns-9 c = reads-mirrored _ _ _ _ (rw (c .before .before .before .before .enum-told3 .given .1) refl) (c .before .before .before .if3 .left) (c .before .before .if4 .left)
 
 enum-told-4 : tie.Need-enum-told-4
 enum-told-4 c = search needs
@@ -82,7 +83,7 @@ returns-13 : tie.Need-returns-13
 returns-13 c = upper-rows _ _ _ _ (c .before .before .before .if7 .left) (c .before .before .if8 .left) (c .before .before .before .before .enum-told4 .given .1) (c .if10 .taken)
 
 returns-14 : tie.Need-returns-14
-returns-14 c = reads-entries _ _ _ _
+returns-14 c = reads-mirrored _ _ _ _ (rw (c .before .before .before .before .enum-told4 .given .1) refl) (c .before .before .before .if7 .left) (c .before .before .if8 .left)
 
 pub way-of-spec : {M : Type 1} → statement M
 way-of-spec =
