@@ -74,6 +74,52 @@ int32_t tl_dsymm(int32_t side, int32_t uplo, int32_t m, int32_t n, double alpha,
                  const double *a, size_t a_len, int32_t lda, const double *b, size_t b_len, int32_t ldb,
                  double beta, double *c, size_t c_len, int32_t ldc, int32_t w, int32_t r);
 
+/* SYRK, the rank-k update of a symmetric matrix C: C := alpha * op(A) * op(A)^T + beta * C, where op(A) is A or its
+ * transpose.
+ *
+ *  1  uplo    L: only the lower triangle of C is read and written. U: only the upper one. The diagonal belongs to both.
+ *  2  trans   N: op(A) is A. T or C: op(A) is the transpose of A.
+ *  3  n       rows of op(A), and the order of C, at least 0.
+ *  4  k       columns of op(A), at least 0.
+ *  5  alpha   factor of the product. If it is zero, A is not read and may be of any length.
+ *  6  a       A: n by k for trans N, else k by n. It is only read. a_len elements; with fewer than A needs the call is
+ *             refused, unless n, k or alpha is zero.
+ *  7  lda     leading dimension of A: at least the rows that A is stored with, and at least 0.
+ *  8  beta    factor of the old C. If it is zero, the old C is not read.
+ *  9  c       C, n by n: triangle uplo is read and written. c_len elements; with fewer than C needs the call is
+ *             refused, unless n is zero. The other triangle, and elements that are no entry of C, keep their bits.
+ * 10  ldc     leading dimension of C: at least n.
+ * 30  w       strip width, as for GEMM.
+ * 30  r       block size, as for GEMM: the rows, columns and terms that are worked on at a time.
+ */
+int32_t tl_dsyrk(int32_t uplo, int32_t trans, int32_t n, int32_t k, double alpha,
+                 const double *a, size_t a_len, int32_t lda, double beta, double *c, size_t c_len, int32_t ldc,
+                 int32_t w, int32_t r);
+
+/* SYR2K, the rank-2k update of a symmetric matrix C: C := alpha * op(A) * op(B)^T + alpha * op(B) * op(A)^T + beta * C.
+ * All terms of the first product come before those of the second.
+ *
+ *  1  uplo    L: only the lower triangle of C is read and written. U: only the upper one. The diagonal belongs to both.
+ *  2  trans   N: op(A) is A and op(B) is B. T or C: they are the transposes of A and B.
+ *  3  n       rows of op(A) and op(B), and the order of C, at least 0.
+ *  4  k       columns of op(A) and op(B), at least 0.
+ *  5  alpha   factor of both products. If it is zero, A and B are not read and may be of any length.
+ *  6  a       A: n by k for trans N, else k by n. It is only read. a_len elements; with fewer than A needs the call is
+ *             refused, unless n, k or alpha is zero.
+ *  7  lda     leading dimension of A: at least the rows that A is stored with, and at least 0.
+ *  8  b       B: stored like A. It is only read. b_len elements, tested like those of A.
+ *  9  ldb     leading dimension of B, in the same way.
+ * 10  beta    factor of the old C. If it is zero, the old C is not read.
+ * 11  c       C, n by n: triangle uplo is read and written. c_len elements; with fewer than C needs the call is
+ *             refused, unless n is zero. The other triangle, and elements that are no entry of C, keep their bits.
+ * 12  ldc     leading dimension of C: at least n.
+ * 30  w       strip width, as for GEMM.
+ * 30  r       block size, as for SYRK.
+ */
+int32_t tl_dsyr2k(int32_t uplo, int32_t trans, int32_t n, int32_t k, double alpha,
+                  const double *a, size_t a_len, int32_t lda, const double *b, size_t b_len, int32_t ldb,
+                  double beta, double *c, size_t c_len, int32_t ldc, int32_t w, int32_t r);
+
 #ifdef __cplusplus
 }
 #endif

@@ -1,17 +1,16 @@
 -- What the answer of the check means, by its cases.
 -- Assumes nothing.
 use Prim.Native.Nat.{ℕ, _≤_, _<_}
-use mathlib.Core.Path.{_≡_, refl, sym, ap, subst, _∙_}
-use mathlib.Core.Logic.{_⊎_}
+use mathlib.Core.Path.{_≡_, refl, sym, ap, _∙_}
+use mathlib.Core.Bool.{false}
 use mathlib.Core.List.{List}
 use native.Mathlib.Omega.{arith}
 use lib.IntN.{ℤ, pos}
 use lib.Ieee.{Float}
+use Rattle.definitions.specs.Call.{inPlace}
 use Rattle.definitions.specs.Element.{result}
 use Rattle.definitions.specs.Check.{width, callOf, checked, number, leaves}
 use Rattle.definitions.specs.Direct.{done}
-use Rattle.definitions.specs.declared.Routine.{Routine}
-use Rattle.definitions.specs.declared.Routine.the-variants.{Gemm, Symm}
 use Rattle.definitions.specs.declared.Args.{Args}
 use Rattle.definitions.specs.declared.Call.{Call}
 use Rattle.definitions.specs.declared.Checked.{Checked}
@@ -43,15 +42,15 @@ module _ (w r : ℤ) (g : Args) (k : Checked) (answer : k ≡ checked w r g) whe
   pub small : (e : ℕ) → k ≡ Refused e → e ≤ 30
   small e h = CheckLaws.when-refused w r g e (sym answer ∙ h) .2
 
-  pub goes-on : (v s : ℕ) → v ≡ width w → s ≡ width r → (g .routine ≡ Gemm) ⊎ (g .routine ≡ Symm) → (c : Call) → k ≡ Ready c
-      → Fits (c .routine) c (g .lena) (g .lenb) (g .lenc) × ((c .routine ≡ Gemm) ⊎ (c .routine ≡ Symm)) × (0 < v) × (v ≤ 64) × (0 < s) × (s ≤ 64)
+  pub goes-on : (v s : ℕ) → v ≡ width w → s ≡ width r → inPlace (g .routine) ≡ false → (c : Call) → k ≡ Ready c
+      → Fits (c .routine) c (g .lena) (g .lenb) (g .lenc) × (inPlace (c .routine) ≡ false) × (0 < v) × (v ≤ 64) × (0 < s) × (s ≤ 64)
   goes-on v s ev es f c h =
       let e = sym answer ∙ h in
       let ok = CheckLaws.when-ready w r g c e in
       let x = strip-width w r g (ok .0) in
       let y = block-size w r g (ok .0) in (
         ready-fits w r g c e,
-        subst (λ (f : Routine). (f ≡ Gemm) ⊎ (f ≡ Symm)) (sym (ap (λ (c : Call). c .routine) (ok .2) ∙ routine-kept g)) f,
+        ap inPlace (ap (λ (c : Call). c .routine) (ok .2) ∙ routine-kept g) ∙ f,
         omega (arith, x),
         omega (arith, x),
         omega (arith, y),

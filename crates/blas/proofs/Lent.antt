@@ -2,8 +2,7 @@
 -- Assumes nothing.
 use Prim.Native.Nat.{ℕ, _+_, _-_, _*_, _≤_, _<_}
 use mathlib.Core.Path.{_≡_, sym, ap, subst, _∙_}
-use mathlib.Core.Bool.{Bool, true, false, true≢false}
-use mathlib.Core.Logic.{_⊎_, ⊎-elim}
+use mathlib.Core.Bool.{true, false, true≢false}
 use mathlib.Core.List.{List}
 use native.Mathlib.Omega.{arith}
 use lib.ListN.{length, take, drop}
@@ -13,11 +12,9 @@ use Rattle.arrays.proofs.Tests.{if-true}
 use Rattle.arrays.proofs.UpdateLaws.{length-update}
 use Rattle.arrays.proofs.PartLaws.{tail, tail-length, put-tail, column-room}
 use Rattle.definitions.specs.Storage.{needed}
-use Rattle.definitions.specs.Call.{_by_, inPlace, shapeC, ldOutput, cutsRows, extent}
+use Rattle.definitions.specs.Call.{inPlace, ldOutput, cutsRows, extent}
 use Rattle.definitions.specs.Element.{strip, result, StripOf}
 use Rattle.definitions.specs.declared.Routine.{Routine}
-use Rattle.definitions.specs.declared.Routine.the-variants.{Gemm, Symm, Syrk, Syr2k, Trmm, Trsm}
-use Rattle.definitions.specs.declared.Shape.{Shape}
 use Rattle.definitions.specs.declared.Call.{Call}
 use Rattle.definitions.proofs.Fits.{Fits, room-sum, output-fits}
 use Rattle.definitions.proofs.Strips.{strip-join}
@@ -42,30 +39,16 @@ pub fits-part : (f : Routine) (c : Call) (la lb x : ℕ) (l : List Float) → c 
 fits-part f c la lb x l e xl h =
     subst (λ (f : Routine). Fits f c la lb (x + length (take (length l - x) (drop x l)))) e (subst (λ (n : ℕ). Fits (c .routine) c la lb n) (omega (arith, tail-length x l)) h)
 
--- GEMM and SYMM write C, m by n, strip by strip of columns.
-pub writes-c : (f : Routine) (c : Call) → (f ≡ Gemm) ⊎ (f ≡ Symm) → (inPlace f ≡ false) × (shapeC f c ≡ c .m by c .n)
-unfolding inPlace shapeC
-writes-c f c h =
-    ⊎-elim (λ e. (ap inPlace e, ap (λ (f : Routine). shapeC f c) e)) (λ e. (ap inPlace e, ap (λ (f : Routine). shapeC f c) e)) h
-
-pub first-column : (c : Call) (la lb len from cols : ℕ) → Fits (c .routine) c la lb len → (c .routine ≡ Gemm) ⊎ (c .routine ≡ Symm)
+pub first-column : (c : Call) (la lb len from cols : ℕ) → Fits (c .routine) c la lb len → inPlace (c .routine) ≡ false
     → 0 < cols → from + cols ≤ extent c → (from * c .ldc ≤ len) × (from + cols ≤ c .n)
-first-column c la lb len from cols h r some within =
-    let w = writes-c (c .routine) c r in
-    let e = extent-columns c (w .0) in
-    (column-inside (c .ldc) (c .m) (c .n) from len (subst (λ (s : Shape). needed (c .ldc) (s .rows) (s .cols) ≤ len) (w .1) (h .room-c)) (h .some-rows) (omega (arith, e)), omega (arith, e))
+unfolding ldOutput
+first-column c la lb len from cols h w some within =
+    let e = extent-columns c w in
+    (column-inside (c .ldc) (c .m) (c .n) from len (rw w at (output-fits c la lb len h .1)) (h .some-rows) (omega (arith, e)), omega (arith, e))
 
--- a routine that is not built yet is neither of the two
-abbrev pub built : Routine → Bool
-built Gemm = true
-built Symm = true
-built Syrk = false
-built Syr2k = false
-built Trmm = false
-built Trsm = false
-
-pub not-built : (f g : Routine) → (f ≡ Gemm) ⊎ (f ≡ Symm) → built g ≡ false → f ≡ g → ⊥
-not-built f g h z e = true≢false (sym (⊎-elim (λ k. ap built k) (λ k. ap built k) h) ∙ ap built e ∙ z)
+-- a routine that writes over B is none of those that write C
+pub not-written-over : (f g : Routine) → inPlace f ≡ false → inPlace g ≡ true → f ≡ g → ⊥
+not-written-over f g h z e = true≢false (sym z ∙ ap inPlace (sym e) ∙ h)
 
 -- ---- all strips
 

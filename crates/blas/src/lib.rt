@@ -1,6 +1,6 @@
 // The direct calls. Each checks its arguments, and what is ready goes strip by strip through the update of its routine.
 ghost use mathlib.Core.Path.{_≡_};
-ghost use mathlib.Core.Logic.{_⊎_};
+ghost use mathlib.Core.Bool.{false};
 ghost use Prim.Native.Nat.{ℕ, _+_, _≤_, _<_};
 ghost use lib.ListN.{length};
 ghost use Rattle.definitions.specs.Call as Calls;
@@ -9,7 +9,6 @@ ghost use Rattle.definitions.specs.Check as Check;
 ghost use Rattle.definitions.specs.Direct as Direct;
 ghost use Rattle.definitions.specs.declared.Call.{Call as CallOf};
 ghost use Rattle.definitions.specs.declared.Checked.the-variants.{Refused, Ready};
-ghost use Rattle.definitions.specs.declared.Routine.the-variants.{Gemm, Symm};
 ghost use Rattle.definitions.proofs.Fits.{Fits};
 use definitions::Args;
 use definitions::Call;
@@ -17,9 +16,9 @@ use definitions::Checked;
 use definitions::Routine;
 use definitions::Scalar;
 
-// The columns from `from` on of a call that fits, in blocks of r.
+// The columns from `from` on of a call that fits and writes C, in blocks of r.
 fn strip(call: Call, a: &[f64], b: &[f64], out: &mut [f64], from: usize, cols: usize, r: usize)
-    requires { ⌜ Fits (call .routine) call (length (now a)) (length (now b)) (length (now out)) × ((call .routine ≡ Gemm) ⊎ (call .routine ≡ Symm)) ⌝ }
+    requires { ⌜ Fits (call .routine) call (length (now a)) (length (now b)) (length (now out)) × (Calls.inPlace (call .routine) ≡ false) ⌝ }
     requires { ⌜ (0 < cols) × (cols ≤ 64) × (from + cols ≤ Calls.extent call) × (0 < r) × (r ≤ 64) ⌝ }
     ensures { λ _. ⌜ now (out .exit) ≡ Element.strip call (now (a .entry)) (now (b .entry)) from (from + cols) (now (out .entry)) ⌝ }
 {
@@ -30,16 +29,16 @@ fn strip(call: Call, a: &[f64], b: &[f64], out: &mut [f64], from: usize, cols: u
     match routine {
         Routine::Gemm => gemm::gemm_strip(call, a, b, part, from, cols, r),
         Routine::Symm => gemm::symm_strip(call, a, b, part, from, cols, r),
-        Routine::Syrk => {}
-        Routine::Syr2k => {}
+        Routine::Syrk => rank_update::syrk_strip(call, a, b, part, from, cols, r),
+        Routine::Syr2k => rank_update::syr2k_strip(call, a, b, part, from, cols, r),
         Routine::Trmm => {}
         Routine::Trsm => {}
     }
 }
 
-// All strips of a call that fits, each of w columns but for the last.
+// All strips of a call that fits and writes C, each of w columns but for the last.
 fn complete(call: Call, a: &[f64], b: &[f64], out: &mut [f64], w: usize, r: usize)
-    requires { ⌜ Fits (call .routine) call (length (now a)) (length (now b)) (length (now out)) × ((call .routine ≡ Gemm) ⊎ (call .routine ≡ Symm)) ⌝ }
+    requires { ⌜ Fits (call .routine) call (length (now a)) (length (now b)) (length (now out)) × (Calls.inPlace (call .routine) ≡ false) ⌝ }
     requires { ⌜ (0 < w) × (w ≤ 64) × (0 < r) × (r ≤ 64) ⌝ }
     ensures { λ _. ⌜ now (out .exit) ≡ Element.result call (now (a .entry)) (now (b .entry)) (now (out .entry)) ⌝ }
 {
@@ -55,7 +54,7 @@ fn complete(call: Call, a: &[f64], b: &[f64], out: &mut [f64], w: usize, r: usiz
 // What the answer of the check means for the output, and the number to be handed back.
 fn answered(answer: Checked, a: &[f64], b: &[f64], out: &mut [f64], w: usize, r: usize) -> i32
     requires { ⌜ ((e : ℕ) → answer ≡ Refused e → e ≤ 30) ⌝ }
-    requires { ⌜ ((k : CallOf) → answer ≡ Ready k → Fits (k .routine) k (length (now a)) (length (now b)) (length (now out)) × ((k .routine ≡ Gemm) ⊎ (k .routine ≡ Symm)) × (0 < w) × (w ≤ 64) × (0 < r) × (r ≤ 64)) ⌝ }
+    requires { ⌜ ((k : CallOf) → answer ≡ Ready k → Fits (k .routine) k (length (now a)) (length (now b)) (length (now out)) × (Calls.inPlace (k .routine) ≡ false) × (0 < w) × (w ≤ 64) × (0 < r) × (r ≤ 64)) ⌝ }
     ensures { λ x. ⌜ (x ≡ Check.number answer) × (now (out .exit) ≡ Check.leaves answer (now (a .entry)) (now (b .entry)) (now (out .entry))) ⌝ }
 {
     match answer {
@@ -142,6 +141,98 @@ pub fn symm(
         m: m,
         n: n,
         k: 0,
+        alpha: Scalar::of(alpha),
+        beta: Scalar::of(beta),
+        lda: lda,
+        ldb: ldb,
+        ldc: ldc,
+        lena: a.len(),
+        lenb: b.len(),
+        lenc: c.len(),
+    };
+    let answer = arguments::check(w, r, g);
+    answered(answer, a, b, c, arguments::width(w), arguments::width(r))
+}
+
+// SYRK: triangle uplo of C, diagonal included, becomes that of alpha op(A) op(A)T + beta C. It has no B.
+pub fn syrk(
+    uplo: i32,
+    trans: i32,
+    n: i32,
+    k: i32,
+    alpha: f64,
+    a: &[f64],
+    lda: i32,
+    beta: f64,
+    c: &mut [f64],
+    ldc: i32,
+    w: i32,
+    r: i32,
+) -> i32
+    ensures { λ x. ⌜ (x ≡ Direct.syrk uplo trans n k alpha (now (a .entry)) lda beta (now (c .entry)) ldc w r .number)
+        × (now (c .exit) ≡ Direct.syrk uplo trans n k alpha (now (a .entry)) lda beta (now (c .entry)) ldc w r .array) ⌝ }
+{
+    let none = [0.0f64; 0];
+    let g = Args {
+        routine: Routine::Syrk,
+        side: 0,
+        uplo: uplo,
+        transa: trans,
+        transb: 0,
+        diag: 0,
+        m: 0,
+        n: n,
+        k: k,
+        alpha: Scalar::of(alpha),
+        beta: Scalar::of(beta),
+        lda: lda,
+        ldb: 0,
+        ldc: ldc,
+        lena: a.len(),
+        lenb: 0,
+        lenc: c.len(),
+    };
+    let answer = arguments::check(w, r, g);
+    answered(
+        answer,
+        a,
+        &none,
+        c,
+        arguments::width(w),
+        arguments::width(r),
+    )
+}
+
+// SYR2K: triangle uplo of C, diagonal included, becomes that of alpha op(A) op(B)T + alpha op(B) op(A)T + beta C.
+pub fn syr2k(
+    uplo: i32,
+    trans: i32,
+    n: i32,
+    k: i32,
+    alpha: f64,
+    a: &[f64],
+    lda: i32,
+    b: &[f64],
+    ldb: i32,
+    beta: f64,
+    c: &mut [f64],
+    ldc: i32,
+    w: i32,
+    r: i32,
+) -> i32
+    ensures { λ x. ⌜ (x ≡ Direct.syr2k uplo trans n k alpha (now (a .entry)) lda (now (b .entry)) ldb beta (now (c .entry)) ldc w r .number)
+        × (now (c .exit) ≡ Direct.syr2k uplo trans n k alpha (now (a .entry)) lda (now (b .entry)) ldb beta (now (c .entry)) ldc w r .array) ⌝ }
+{
+    let g = Args {
+        routine: Routine::Syr2k,
+        side: 0,
+        uplo: uplo,
+        transa: trans,
+        transb: 0,
+        diag: 0,
+        m: 0,
+        n: n,
+        k: k,
         alpha: Scalar::of(alpha),
         beta: Scalar::of(beta),
         lda: lda,

@@ -64,3 +64,47 @@ pub extern "C" fn tl_dsymm(
 {
     blas::symm(side, uplo, m, n, alpha, a, lda, b, ldb, beta, c, ldc, w, r)
 }
+
+#[no_mangle]
+pub extern "C" fn tl_dsyrk(
+    uplo: i32,
+    trans: i32,
+    n: i32,
+    k: i32,
+    alpha: f64,
+    a: &[f64],
+    lda: i32,
+    beta: f64,
+    c: &mut [f64],
+    ldc: i32,
+    w: i32,
+    r: i32,
+) -> i32
+    ensures { λ x. ⌜ (x ≡ Direct.syrk uplo trans n k alpha (now (a .entry)) lda beta (now (c .entry)) ldc w r .number)
+        × (now (c .exit) ≡ Direct.syrk uplo trans n k alpha (now (a .entry)) lda beta (now (c .entry)) ldc w r .array) ⌝ }
+{
+    blas::syrk(uplo, trans, n, k, alpha, a, lda, beta, c, ldc, w, r)
+}
+
+#[no_mangle]
+pub extern "C" fn tl_dsyr2k(
+    uplo: i32,
+    trans: i32,
+    n: i32,
+    k: i32,
+    alpha: f64,
+    a: &[f64],
+    lda: i32,
+    b: &[f64],
+    ldb: i32,
+    beta: f64,
+    c: &mut [f64],
+    ldc: i32,
+    w: i32,
+    r: i32,
+) -> i32
+    ensures { λ x. ⌜ (x ≡ Direct.syr2k uplo trans n k alpha (now (a .entry)) lda (now (b .entry)) ldb beta (now (c .entry)) ldc w r .number)
+        × (now (c .exit) ≡ Direct.syr2k uplo trans n k alpha (now (a .entry)) lda (now (b .entry)) ldb beta (now (c .entry)) ldc w r .array) ⌝ }
+{
+    blas::syr2k(uplo, trans, n, k, alpha, a, lda, b, ldb, beta, c, ldc, w, r)
+}

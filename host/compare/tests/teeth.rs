@@ -167,6 +167,20 @@ fn other_triangle_cleared() {
 }
 
 #[test]
+fn diagonal_left_out() {
+    for routine in [Routine::Syrk, Routine::Syr2k] {
+        let wrong = |call: &Call, a: &[f64], b: &[f64], c: &mut [f64]| {
+            let old = c.to_vec();
+            let number = direct(call, a, b, c);
+            let ld = call.ldc.max(1) as usize;
+            (0..c.len()).filter(|p| p % ld == p / ld).for_each(|p| c[p] = old[p]);
+            number
+        };
+        assert!(told_apart(routine, &wrong).is_some());
+    }
+}
+
+#[test]
 fn wrong_options() {
     let flipped = |code: i32, to: char, or: char| if reference::is(code, to) { or as i32 } else { to as i32 };
     for routine in [Routine::Symm, Routine::Syrk, Routine::Syr2k, Routine::Trmm, Routine::Trsm] {
@@ -180,6 +194,8 @@ fn wrong_options() {
             direct(&Call { diag: flipped(call.diag, 'U', 'N'), ..*call }, a, b, out)
         };
         assert!(told_apart(routine, &other_diagonal).is_some());
+    }
+    for routine in [Routine::Gemm, Routine::Syrk, Routine::Syr2k, Routine::Trmm, Routine::Trsm] {
         let c_as_n = |call: &Call, a: &[f64], b: &[f64], out: &mut [f64]| {
             let transa = if reference::is(call.transa, 'C') { 'N' as i32 } else { call.transa };
             direct(&Call { transa, ..*call }, a, b, out)
@@ -209,6 +225,18 @@ fn syr2k_that_alternates_panels() {
             c[place] = e;
         }
         0
+    };
+    assert!(told_apart(Routine::Syr2k, &wrong).is_some());
+}
+
+#[test]
+fn syr2k_with_its_products_swapped() {
+    let wrong = |call: &Call, a: &[f64], b: &[f64], c: &mut [f64]| {
+        let number = check(call, a.len(), b.len(), c.len());
+        if number == 0 {
+            direct(&Call { lda: call.ldb, ldb: call.lda, ..*call }, b, a, c);
+        }
+        number
     };
     assert!(told_apart(Routine::Syr2k, &wrong).is_some());
 }

@@ -4,8 +4,9 @@ use Prim.Native.Nat.{_+_, _*_, _≤_}
 use mathlib.Core.Path.{refl}
 use lib.ListN.{length}
 use denote.Ref.{now}
-use Rattle.definitions.specs.declared.Routine.the-variants.{Syrk, Syr2k, Trmm, Trsm}
-use Rattle.blas.proofs.Lent.{put-strip, first-column, fits-part, not-built}
+use Rattle.definitions.specs.Call.{inPlace}
+use Rattle.definitions.specs.declared.Routine.the-variants.{Trmm, Trsm}
+use Rattle.blas.proofs.Lent.{put-strip, first-column, fits-part, not-written-over}
 use native.Mathlib.Omega.{arith}
 use borrow.Author.Needs.{needs}
 use Rattle.blas.proofs.strip.Statement.{statement}
@@ -51,8 +52,18 @@ symm-strip-requires c κs =
 enum-told-3 : tie.Need-enum-told-3
 enum-told-3 c = search needs
 
+syrk-strip-requires : tie.Need-syrk-strip-requires
+syrk-strip-requires c κs =
+    let h = inside (c .before .before .before) in
+    (fits-part _ (c .before .before .before .before .before .before .before .args .call) _ _ _ (now (c .before .before .before .before .before .before .before .args .out)) (c .enum-told3 .given .1) (h .0) (c .before .before .before .before .before .before .before .pre .0 .0), omega (arith, h, c .before .before .before .before .before .before .before .pre .1))
+
 enum-told-4 : tie.Need-enum-told-4
 enum-told-4 c = search needs
+
+syr2k-strip-requires : tie.Need-syr2k-strip-requires
+syr2k-strip-requires c κs =
+    let h = inside (c .before .before .before) in
+    (fits-part _ (c .before .before .before .before .before .before .before .args .call) _ _ _ (now (c .before .before .before .before .before .before .before .args .out)) (c .enum-told4 .given .1) (h .0) (c .before .before .before .before .before .before .before .pre .0 .0), omega (arith, h, c .before .before .before .before .before .before .before .pre .1))
 
 enum-told-5 : tie.Need-enum-told-5
 enum-told-5 c = search needs
@@ -76,25 +87,27 @@ same-length-3 : tie.Need-same-length-3
 same-length-3 c = search needs
 
 returns-3 : tie.Need-returns-3
-returns-3 c = absurd (not-built _ Syrk (c .before .before .before .before .before .before .before .before .before .pre .0 .1) refl (c .before .before .enum-told3 .given .1))
+returns-3 c = put-strip (c .before .before .before .before .before .before .before .before .before .before .args .call) _ _ _ _ _ _ _ (inside (c .before .before .before .before .before .before) .0) (c .before .before .syrk-strip .ensures)
 
 same-length-4 : tie.Need-same-length-4
 same-length-4 c = search needs
 
 returns-4 : tie.Need-returns-4
-returns-4 c = absurd (not-built _ Syr2k (c .before .before .before .before .before .before .before .before .before .pre .0 .1) refl (c .before .before .enum-told4 .given .1))
+returns-4 c = put-strip (c .before .before .before .before .before .before .before .before .before .before .args .call) _ _ _ _ _ _ _ (inside (c .before .before .before .before .before .before) .0) (c .before .before .syr2k-strip .ensures)
 
 same-length-5 : tie.Need-same-length-5
 same-length-5 c = search needs
 
 returns-5 : tie.Need-returns-5
-returns-5 c = absurd (not-built _ Trmm (c .before .before .before .before .before .before .before .before .before .pre .0 .1) refl (c .before .before .enum-told5 .given .1))
+unfolding inPlace
+returns-5 c = absurd (not-written-over _ Trmm (c .before .before .before .before .before .before .before .before .before .pre .0 .1) refl (c .before .before .enum-told5 .given .1))
 
 same-length-6 : tie.Need-same-length-6
 same-length-6 c = search needs
 
 returns-6 : tie.Need-returns-6
-returns-6 c = absurd (not-built _ Trsm (c .before .before .before .before .before .before .before .before .before .pre .0 .1) refl (c .before .before .enum-told6 .given .1))
+unfolding inPlace
+returns-6 c = absurd (not-written-over _ Trsm (c .before .before .before .before .before .before .before .before .before .pre .0 .1) refl (c .before .before .enum-told6 .given .1))
 
 pub strip-spec : {M : Type 1} → statement M
 strip-spec =
@@ -111,7 +124,9 @@ strip-spec =
     enum-told-2
     symm-strip-requires
     enum-told-3
+    syrk-strip-requires
     enum-told-4
+    syr2k-strip-requires
     enum-told-5
     enum-told-6
     same-length

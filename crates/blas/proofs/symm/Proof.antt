@@ -1,11 +1,11 @@
 -- `blas::symm` is the direct call of the definitions: its words go through their bits once.
 -- Assumes nothing.
 use mathlib.Core.Path.{_≡_, refl, ap, _∙_}
-use mathlib.Core.Logic.{inr}
 use lib.ListN.{length}
 use denote.Ref.{now}
 use mir.Syntax.{w32}
 use mir.ValLaws.{toZ-ofZ}
+use Rattle.definitions.specs.Call.{inPlace}
 use Rattle.definitions.specs.Check.{width, checked}
 use Rattle.definitions.specs.Direct.{symmArgs, symm}
 use Rattle.definitions.specs.declared.Args.{Args}
@@ -55,10 +55,11 @@ width-requires-2 : tie.Need-width-requires-2
 width-requires-2 c κs = search needs
 
 answered-requires : tie.Need-answered-requires
+unfolding inPlace
 answered-requires c κs =
     let e = answer (c .before .before .before) in (
       small (c .before .before .before .before .before .before .before .before .before .args .w) (c .before .before .before .before .before .before .before .before .before .args .r) (given (c .before .before .before .before .before .before .before .before .before)) _ e,
-      goes-on (c .before .before .before .before .before .before .before .before .before .args .w) (c .before .before .before .before .before .before .before .before .before .args .r) (given (c .before .before .before .before .before .before .before .before .before)) _ e _ _ (c .before .width .ensures ∙ ap width (toZ-ofZ w32 (c .before .before .before .before .before .before .before .before .before .args .w) (c .before .before .before .before .before .before .before .before .before .fits .w))) (c .width2 .ensures ∙ ap width (toZ-ofZ w32 (c .before .before .before .before .before .before .before .before .before .args .r) (c .before .before .before .before .before .before .before .before .before .fits .r))) (inr refl),
+      goes-on (c .before .before .before .before .before .before .before .before .before .args .w) (c .before .before .before .before .before .before .before .before .before .args .r) (given (c .before .before .before .before .before .before .before .before .before)) _ e _ _ (c .before .width .ensures ∙ ap width (toZ-ofZ w32 (c .before .before .before .before .before .before .before .before .before .args .w) (c .before .before .before .before .before .before .before .before .before .fits .w))) (c .width2 .ensures ∙ ap width (toZ-ofZ w32 (c .before .before .before .before .before .before .before .before .before .args .r) (c .before .before .before .before .before .before .before .before .before .fits .r))) refl,
     )
 
 same-length : tie.Need-same-length

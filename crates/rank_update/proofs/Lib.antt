@@ -1,0 +1,4 @@
+pub mod Masks
+pub mod Trapezoids
+pub mod Sums
+pub mod StripLaws
