@@ -1,0 +1,4 @@
+pub mod GridLaws
+pub mod TakeLaws
+pub mod TermLaws
+pub mod StripLaws

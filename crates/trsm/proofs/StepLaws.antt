@@ -1,0 +1,133 @@
+-- What the code's updates of B are as steps of the solution.
+-- Assumes nothing.
+use mathlib.Core.Bool.{Bool, true, false}
+use mathlib.Core.Path.{_≡_, refl, sym, ap, ap₂, subst, _∙_}
+use mathlib.Core.List.{List}
+use Prim.Native.Nat.{ℕ, _+_, _*_, _<_, _≤_}
+use native.Mathlib.Omega.{arith}
+use lib.ListN.{length}
+use lib.Ieee.{Float, nan, binary64, neg, ofBits}
+use Rattle.arrays.specs.Choice.{if_then_else_}
+use Rattle.arrays.specs.Update.{update}
+use Rattle.arrays.specs.Fold.{fold}
+use Rattle.arrays.proofs.UpdateLaws.{length-update}
+use Rattle.arrays.proofs.FoldLaws.{fold-same}
+use Rattle.arrays.proofs.Tests.{if-same}
+use Rattle.floats.specs.Array.{at}
+use Rattle.floats.specs.Operations.{_⊘_, −1f}
+use Rattle.definitions.specs.Element.{divided}
+use Rattle.definitions.specs.declared.Diagonal.{Diagonal}
+use Rattle.definitions.specs.declared.Diagonal.the-variants.{Unit, Nonunit}
+use Rattle.definitions.specs.declared.Transpose.{Transpose}
+use Rattle.definitions.specs.declared.Transpose.the-variants.{No, Yes}
+use Rattle.packing.specs.Factor.{Matrix, indexOf, entryOf}
+use Rattle.forms.specs.Forms.{opForm}
+use Rattle.kernel.specs.Product.{turn}
+use Rattle.kernel.proofs.PanelLaws.{turn-below}
+use Rattle.lines.specs.Lines.{cell, grid, within, lineTerm, Room}
+use Rattle.lines.proofs.GridLaws.{grid-same, grid-keep, grid-at}
+use Rattle.trsm.specs.Solve.{first, ordered, solution, front, solveTerm, solveEnd, Step}
+use Rattle.trsm.proofs.OrderLaws.{turn-turn, turn-first, first-one, within-turn}
+use Rattle.trsm.proofs.StateLaws.{narrower, wider, rest-more, one-ended, held}
+
+-- the diagonal of op(A) is A's
+pub diagonal-index : (t : Transpose) (ld i : ℕ) → indexOf (opForm t) ld i i ≡ i * ld + i
+unfolding indexOf
+diagonal-index No ld i = refl
+diagonal-index Yes ld i = refl
+
+pub diagonal-entry : (t : Transpose) (a : List Float) (ld i : ℕ) → at a (i * ld + i) ≡ entryOf (opForm t) a ld i i
+unfolding entryOf
+diagonal-entry t a ld i = ap (at a) (sym (diagonal-index t ld i))
+
+pub minus-one : neg (ofBits binary64 0x3ff0_0000_0000_0000) ≡ −1f
+unfolding neg ofBits
+minus-one = refl
+
+-- what a block of terms reads of A
+pub block-inside : (left : Bool) (t : Transpose) (ld len m y h x n : ℕ) → ((i j : ℕ) → i < m → j < m → indexOf (opForm t) ld i j < len) → y + h ≤ m → x + n ≤ m
+    → (q p : ℕ) → q < h → p < n → (if left then indexOf (opForm t) ld (y + q) (x + p) else indexOf (opForm t) ld (x + p) (y + q)) < len
+block-inside true t ld len m y h x n inside hy hx q p hq hp = inside (y + q) (x + p) (omega arith) (omega arith)
+block-inside false t ld len m y h x n inside hy hx q p hq hp = inside (x + p) (y + q) (omega arith) (omega arith)
+
+-- a buffer has room for at most 64 elements of at most 64 lines
+buffer-room : (left : Bool) (n lines len : ℕ) → n ≤ 64 → lines ≤ 64 → 4096 ≤ len → Room left 64 n lines len
+buffer-room true n lines len a b c = (a, omega arith)
+buffer-room false n lines len a b c = (b, omega arith)
+
+module _ (left down : Bool) (ld m lines : ℕ) (diag : Diagonal) (T : Matrix) (pos : 0 < ld) where
+  -- ---- the end of the sum of unknown p
+
+  -- its element is changed by f, which is the end of its sum
+  ended : (f : Float → Float) (p : ℕ) (b c : List Float) → p < m → ((e : Float) → f e ≡ solveEnd diag down m T p e)
+      → c ≡ update (grid left ld m lines (λ q l e. if within (turn down m p) 1 q then f e else e)) b
+      → Step left down ld m lines diag T (front (p + 1) p) (front (p + 1) (p + 1)) b c
+  unfolding ordered
+  ended f p b c hp same ec start k b₀ eb =
+      one-ended nan (solveTerm left down m T) (solveEnd diag down m T) left down ld m lines start b₀ pos p k b c eb
+      (ec ∙ grid-same left ld m lines _ _ b pos
+      (λ i l hi hl e.
+      ap₂ (λ (t : Bool) (y : Float). if t then y else e)
+      (ap (λ (x : ℕ). within x 1 i) (sym (first-one down m p)) ∙ within-turn down m p 1 i (omega arith) hi) (same e)))
+
+  pub unit-ended : (p : ℕ) (b : List Float) → p < m → diag ≡ Unit → Step left down ld m lines diag T (front (p + 1) p) (front (p + 1) (p + 1)) b b
+  unfolding solveEnd divided
+  unit-ended p b hp e =
+      ended (λ x. x) p b b hp (λ x. rw e) (grid-keep left ld m lines _ b (λ q l hq hl x. if-same (within (turn down m p) 1 q) x))
+
+  pub divided-by : (p i : ℕ) (d : Float) (b c : List Float) → p < m → diag ≡ Nonunit → i ≡ first down m p 1 → d ≡ T i i
+      → c ≡ update (grid left ld m lines (λ q l e. if within i 1 q then e ⊘ d else e)) b
+      → Step left down ld m lines diag T (front (p + 1) p) (front (p + 1) (p + 1)) b c
+  unfolding solveEnd divided
+  divided-by p i d b c hp e ei ed ec =
+      let ix : i ≡ turn down m p = ei ∙ first-one down m p in
+      ended (λ x. x ⊘ d) p b c hp (λ x. rw e (ap (λ (y : Float). x ⊘ y) (ed ∙ ap (λ (y : ℕ). T y y) ix)))
+      (ec ∙ ap (λ (y : ℕ). update (grid left ld m lines (λ q l e. if within y 1 q then e ⊘ d else e)) b) ix)
+
+  -- ---- terms
+
+  -- the terms of the unknowns from the p-th on, n of them, whose values x holds, in the sums of those from the i-th on, h of them
+  pub terms-more : (alpha : Float) (p n to i h x0 y : ℕ) (x₀ x b₀ b c : List Float) → alpha ≡ −1f → n ≤ 64 → lines ≤ 64 → p + n ≤ i → i + h ≤ to → to ≤ m
+      → 4096 ≤ length x₀ → Room left ld m lines (length b₀) → x0 ≡ first down m p n → y ≡ first down m i h
+      → x ≡ update (grid left 64 n lines (λ q l _. at b₀ (cell left ld (x0 + q) l))) x₀
+      → Step left down ld m lines diag T (λ k. front (p + n) (p + n) (front to p k)) (λ k. front i (p + n) (front to p k)) b₀ b
+      → c ≡ update (grid left ld m lines (λ q l e. if within y h q then fold (λ e s. lineTerm left alpha T q e (x0 + turn down n s) (at x (cell left 64 (turn down n s) l))) n e else e)) b
+      → Step left down ld m lines diag T (λ k. front (p + n) (p + n) (front to p k)) (λ k. front (i + h) (p + n) (front to p k)) b₀ c
+  unfolding ordered solveTerm
+  terms-more alpha p n to i h x0 y x₀ x b₀ b c ea n64 l64 hp hi ht hx room ex ey taken before ec start k l₀ e₀ =
+      rest-more nan (solveTerm left down m T) (solveEnd diag down m T) left down ld m lines start l₀ pos p n i h to k (λ s l. at x (cell left 64 (turn down n s) l)) b c hp hi
+      (λ s l hs hl.
+      grid-at nan left 64 n lines _ x₀ x (turn down n s) l (buffer-room left n lines (length x₀) n64 l64 hx) (turn-below down n s hs) hl taken
+      ∙ ap (λ (z : ℕ). at b₀ (cell left ld z l)) (index s hs)
+      ∙ held nan (solveTerm left down m T) (solveEnd diag down m T) left down ld m lines start l₀ (p + n) (p + n) (front to p k) b₀ (p + s) l
+      (subst (λ (z : ℕ). Room left ld m lines z) (ap length e₀ ∙ length-update _ l₀) room) (omega arith) hl (omega arith) (omega arith) e₀)
+      (before start k l₀ e₀)
+      (ec ∙ grid-same left ld m lines _ _ b pos
+      (λ j l hj hl e.
+      ap₂ (λ (z : Bool) (w : Float). if z then w else e)
+      (ap (λ (z : ℕ). within z h j) ey ∙ within-turn down m i h j (omega arith) hj)
+      (fold-same _ _ n e
+      (λ s hs f.
+      ap₂ (λ (z : Float) (w : ℕ). lineTerm left z T j f w (at x (cell left 64 (turn down n s) l))) ea (index s hs)
+      ∙ ap (λ (w : ℕ). lineTerm left −1f T w f (turn down m (p + s)) (at x (cell left 64 (turn down n s) l))) (sym (turn-turn down m j hj))))))
+    where
+      index : (s : ℕ) → s < n → x0 + turn down n s ≡ turn down m (p + s)
+      index s hs = ap (λ (z : ℕ). z + turn down n s) ex ∙ turn-first down m p n s (omega arith) hs
+
+  -- at the end of that loop
+  pub terms-done : (p n to : ℕ) (b c : List Float)
+      → Step left down ld m lines diag T (λ k. front (p + n) (p + n) (front to p k)) (λ k. front to (p + n) (front to p k)) b c
+      → Step left down ld m lines diag T (λ k. front (p + n) (p + n) (front to p k)) (front to (p + n)) b c
+  terms-done p n to b c h start k b₀ e =
+      wider nan (solveTerm left down m T) (solveEnd diag down m T) left down ld m lines start b₀ pos to (p + n) p k c (h start k b₀ e)
+
+  -- ---- a block: it is solved, and then its terms are in the sums of those below the to-th
+  pub block-more : (p q e to : ℕ) (b₀ b c d : List Float) → e ≤ to
+      → Step left down ld m lines diag T (front to p) (front to q) b₀ b
+      → Step left down ld m lines diag T (front e q) (front e e) b c
+      → Step left down ld m lines diag T (λ k. front e e (front to q k)) (front to e) c d
+      → Step left down ld m lines diag T (front to p) (front to e) b₀ d
+  block-more p q e to b₀ b c d h before solve rest start k l₀ e₀ =
+      rest start k l₀
+      (solve start (front to q k) l₀
+      (narrower nan (solveTerm left down m T) (solveEnd diag down m T) left down ld m lines start l₀ pos to q e k b h (before start k l₀ e₀)))

@@ -1,0 +1,94 @@
+-- How lines are solved. Unknowns, and with them their terms, are numbered in the order of solving.
+--     first       the least index of the unknowns from the p-th on, n of them
+--     ordered     an update by unknown and line
+--     next        the value of unknown q, from the list of the values before it
+--     solution    the value of unknown q
+--     sumAfter    the sum of unknown q after the terms of the first k
+--     stateOf     unknown q when the first k are solved
+--     solving     all unknowns of all lines, unknown q with the terms of the first k q; `start` is what the sums start with, by line and unknown
+--     front       hi for the unknowns below e, and k for the others
+--     solveTerm   a term of TRSM; T is op(A) as A is stored
+--     solveEnd    the end of a sum of TRSM: the division
+--     isUpper     the triangle is the upper one
+--     goesDown    solving goes from the last index down, if A's triangle is the one given
+--     lineValue   the value of element i of a line; b is the line as it was
+--     Step        what a part of the solution does: whatever the sums started with, the unknowns come from one state to another
+use mathlib.Core.Path.{_≡_}
+use mathlib.Core.Bool.{Bool, true, false, not}
+use mathlib.Core.List.{List}
+use Prim.Native.Nat.{ℕ, _+_, _-_}
+use lib.ListN.{getD}
+use lib.Dec.{ltb}
+use lib.Ieee.{Float, nan}
+use Rattle.arrays.specs.Choice.{if_then_else_}
+use Rattle.arrays.specs.Update.{update}
+use Rattle.arrays.specs.Fold.{fold, solved}
+use Rattle.floats.specs.Operations.{_⊗_, 0f, −1f}
+use Rattle.definitions.specs.Number.{isZero, factor}
+use Rattle.definitions.specs.declared.Scalar.{Scalar}
+use Rattle.definitions.specs.Storage.{opTriangle}
+use Rattle.definitions.specs.Element.{divided, solvesUp}
+use Rattle.definitions.specs.declared.Side.{Side}
+use Rattle.definitions.specs.declared.Transpose.{Transpose}
+use Rattle.definitions.specs.declared.Triangle.{Triangle}
+use Rattle.definitions.specs.declared.Triangle.the-variants.{Lower, Upper}
+use Rattle.definitions.specs.declared.Diagonal.{Diagonal}
+use Rattle.packing.specs.Factor.{Matrix}
+use Rattle.kernel.specs.Product.{turn}
+use Rattle.lines.specs.Lines.{grid, lineTerm}
+
+unfoldable pub first : Bool → ℕ → ℕ → ℕ → ℕ
+first false m p n = p
+first true m p n = m - (p + n)
+
+unfoldable pub ordered : {A : Type 0} → Bool → Bool → ℕ → ℕ → ℕ → (ℕ → ℕ → A → A) → ℕ → A → A
+ordered left down ld m lines f = grid left ld m lines (λ i l x. f (turn down m i) l x)
+
+-- ---- one line: `term q e p x` is the sum e of unknown q after the term of unknown p, whose value is x
+
+module _ {A : Type 0} (d : A) (term : ℕ → A → ℕ → A → A) (finish : ℕ → A → A) (start : ℕ → A) where
+  unfoldable pub next : List A → ℕ → A
+  next xs q = finish q (fold (λ e p. term q e p (getD xs p d)) q (start q))
+
+  unfoldable pub solution : ℕ → A
+  solution q = next (solved next q) q
+
+  unfoldable pub sumAfter : ℕ → ℕ → A
+  sumAfter k q = fold (λ e p. term q e p (solution p)) k (start q)
+
+  unfoldable pub stateOf : ℕ → ℕ → A
+  stateOf k q = if ltb q k then solution q else sumAfter k q
+
+-- ---- all lines
+
+unfoldable pub solving : {A : Type 0} → Bool → Bool → ℕ → ℕ → ℕ → A → (ℕ → A → ℕ → A → A) → (ℕ → A → A) → (ℕ → ℕ → A) → (ℕ → ℕ) → ℕ → A → A
+solving left down ld m lines d term finish start k = ordered left down ld m lines (λ q l _. stateOf d term finish (start l) (k q) q)
+
+unfoldable pub front : ℕ → ℕ → (ℕ → ℕ) → ℕ → ℕ
+front e hi k q = if ltb q e then hi else k q
+
+-- ---- TRSM
+
+unfoldable pub solveTerm : Bool → Bool → ℕ → Matrix → ℕ → Float → ℕ → Float → Float
+solveTerm left down m T q e p x = lineTerm left −1f T (turn down m q) e (turn down m p) x
+
+unfoldable pub solveEnd : Diagonal → Bool → ℕ → Matrix → ℕ → Float → Float
+solveEnd diag down m T q e = divided diag e (T (turn down m q) (turn down m q))
+
+unfoldable pub isUpper : Triangle → Bool
+isUpper Lower = false
+isUpper Upper = true
+
+unfoldable pub goesDown : Side → Transpose → Triangle → Bool
+goesDown side t uplo = not (solvesUp side (opTriangle t uplo))
+
+unfoldable pub lineValue : Bool → Bool → ℕ → Diagonal → Scalar → Matrix → (ℕ → Float) → ℕ → Float
+lineValue left down m diag alpha T b i =
+    let x = solution nan (solveTerm left down m T) (solveEnd diag down m T) (λ q. factor alpha ⊗ b (turn down m q)) (turn down m i) in
+    if isZero alpha then 0f else x
+
+abbrev pub Step : Bool → Bool → ℕ → ℕ → ℕ → Diagonal → Matrix → ((ℕ → ℕ) → ℕ → ℕ) → ((ℕ → ℕ) → ℕ → ℕ) → List Float → List Float → Type 0
+Step left down ld m lines diag T before after b c =
+    (start : ℕ → ℕ → Float) (k : ℕ → ℕ) (b₀ : List Float)
+    → b ≡ update (solving left down ld m lines nan (solveTerm left down m T) (solveEnd diag down m T) start (before k)) b₀
+    → c ≡ update (solving left down ld m lines nan (solveTerm left down m T) (solveEnd diag down m T) start (after k)) b₀
