@@ -120,6 +120,56 @@ int32_t tl_dsyr2k(int32_t uplo, int32_t trans, int32_t n, int32_t k, double alph
                   const double *a, size_t a_len, int32_t lda, const double *b, size_t b_len, int32_t ldb,
                   double beta, double *c, size_t c_len, int32_t ldc, int32_t w, int32_t r);
 
+/* TRMM, the product with a triangular matrix A: B := alpha * op(A) * B or B := alpha * B * op(A), where op(A) is A or
+ * its transpose. Each element starts as +0.0 and has the terms of op(A)'s triangle.
+ *
+ *  1  side    L: op(A) stands left of B. R: op(A) stands right of B.
+ *  2  uplo    L: A is lower triangular, and only its lower triangle is read. U: the same for the upper one.
+ *  3  transa  N: op(A) is A. T or C: op(A) is the transpose of A.
+ *  4  diag    N: the diagonal of A is read. U: it counts as 1.0 and is not read.
+ *  5  m       rows of B, at least 0. For side L it is the order of A.
+ *  6  n       columns of B, at least 0. For side R it is the order of A.
+ *  7  alpha   factor of the product. If it is zero, A and the old B are not read, A may be of any length, and B becomes
+ *             +0.0.
+ *  8  a       A, m by m for side L, n by n for side R. It is only read. a_len elements; with fewer than A needs the
+ *             call is refused, unless m, n or alpha is zero.
+ *  9  lda     leading dimension of A: at least its order.
+ * 10  b       B, m by n: read and written. b_len elements; with fewer than B needs the call is refused, unless m or n
+ *             is zero. Elements that are no entry of B keep their bits.
+ * 11  ldb     leading dimension of B: at least m.
+ * 30  w       strip width, as for GEMM: the columns of B, or its rows for side R, that are worked on at a time.
+ * 30  r       block size, as for GEMM.
+ */
+int32_t tl_dtrmm(int32_t side, int32_t uplo, int32_t transa, int32_t diag, int32_t m, int32_t n, double alpha,
+                 const double *a, size_t a_len, int32_t lda, double *b, size_t b_len, int32_t ldb,
+                 int32_t w, int32_t r);
+
+/* TRSM, the solution with a triangular matrix A: B becomes X with op(A) * X = alpha * B or X * op(A) = alpha * B, where
+ * op(A) is A or its transpose. Each element starts as alpha times the old one. In the order of solving each element
+ * already solved turns the sum e into e + (-1.0 * v) * u, u from the left factor and v from the right; at the end e is
+ * divided by the diagonal element, unless diag is U. Nothing tests whether A is singular.
+ *
+ *  1  side    L: op(A) stands left of X. R: op(A) stands right of X.
+ *  2  uplo    L: A is lower triangular, and only its lower triangle is read. U: the same for the upper one.
+ *  3  transa  N: op(A) is A. T or C: op(A) is the transpose of A.
+ *  4  diag    N: the diagonal of A is read. U: it counts as 1.0 and is not read, and nothing is divided.
+ *  5  m       rows of B, at least 0. For side L it is the order of A.
+ *  6  n       columns of B, at least 0. For side R it is the order of A.
+ *  7  alpha   factor of the old B. If it is zero, A and the old B are not read, A may be of any length, and B becomes
+ *             +0.0.
+ *  8  a       A, m by m for side L, n by n for side R. It is only read. a_len elements; with fewer than A needs the
+ *             call is refused, unless m, n or alpha is zero.
+ *  9  lda     leading dimension of A: at least its order.
+ * 10  b       B, m by n: read and written. b_len elements; with fewer than B needs the call is refused, unless m or n
+ *             is zero. Elements that are no entry of B keep their bits.
+ * 11  ldb     leading dimension of B: at least m.
+ * 30  w       strip width, as for TRMM.
+ * 30  r       block size: the unknowns that are worked on at a time, 1 to 64. 64 is a good choice.
+ */
+int32_t tl_dtrsm(int32_t side, int32_t uplo, int32_t transa, int32_t diag, int32_t m, int32_t n, double alpha,
+                 const double *a, size_t a_len, int32_t lda, double *b, size_t b_len, int32_t ldb,
+                 int32_t w, int32_t r);
+
 #ifdef __cplusplus
 }
 #endif

@@ -8,6 +8,7 @@ ghost use Rattle.definitions.specs.Call as Calls;
 ghost use Rattle.definitions.specs.Call.{_by_};
 ghost use Rattle.definitions.specs.Check as Check;
 ghost use Rattle.arguments.specs.Tests as Tests;
+ghost use Rattle.arguments.specs.Strip.{stripStart};
 use definitions::Args;
 use definitions::Call;
 use definitions::Checked;
@@ -490,17 +491,44 @@ fn is_right(s: Side) -> bool
     }
 }
 
+// Strips cut the rows of the output, not its columns.
+fn cuts_rows(routine: Routine, s: Side) -> bool
+    ensures { λ r. ⌜ r ≡ Calls.cutsRows routine s ⌝ }
+{
+    in_place(routine) & is_right(s)
+}
+
 // The columns of the output, or its rows where strips cut rows.
 pub fn extent(c: Call) -> usize
     ensures { λ r. ⌜ (r ≡ Calls.extent c) × (r < 4294967296) ⌝ }
 {
     let routine = c.routine;
     let s = c.side;
-    if in_place(routine) & is_right(s) {
+    if cuts_rows(routine, s) {
         c.m as usize
     } else {
         c.n as usize
     }
+}
+
+// The output's leading dimension.
+fn ld_output(routine: Routine, ldb: u32, ldc: u32) -> u32
+    ensures { λ r. ⌜ r ≡ (if Calls.inPlace routine then ldb else ldc) ⌝ }
+{
+    if in_place(routine) { ldb } else { ldc }
+}
+
+// The element of the output's array at which the strip from `from` on starts.
+pub fn strip_start(c: Call, from: usize) -> usize
+    requires { ⌜ stripStart c from < 18446744073709551616 ⌝ }
+    ensures { λ r. ⌜ r ≡ stripStart c from ⌝ }
+{
+    let routine = c.routine;
+    let s = c.side;
+    if cuts_rows(routine, s) {
+        return from;
+    }
+    from * (ld_output(routine, c.ldb, c.ldc) as usize)
 }
 
 // The number of strips of width w.

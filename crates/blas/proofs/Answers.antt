@@ -1,16 +1,17 @@
 -- What the answer of the check means, by its cases.
 -- Assumes nothing.
 use Prim.Native.Nat.{ℕ, _≤_, _<_}
-use mathlib.Core.Path.{_≡_, refl, sym, ap, _∙_}
-use mathlib.Core.Bool.{false}
+use mathlib.Core.Path.{_≡_, refl, sym, ap, subst, _∙_}
 use mathlib.Core.List.{List}
 use native.Mathlib.Omega.{arith}
 use lib.IntN.{ℤ, pos}
 use lib.Ieee.{Float}
+use Rattle.arrays.specs.Choice.{if_then_else_}
 use Rattle.definitions.specs.Call.{inPlace}
 use Rattle.definitions.specs.Element.{result}
 use Rattle.definitions.specs.Check.{width, callOf, checked, number, leaves}
 use Rattle.definitions.specs.Direct.{done}
+use Rattle.definitions.specs.declared.Routine.{Routine}
 use Rattle.definitions.specs.declared.Args.{Args}
 use Rattle.definitions.specs.declared.Call.{Call}
 use Rattle.definitions.specs.declared.Checked.{Checked}
@@ -18,6 +19,7 @@ use Rattle.definitions.specs.declared.Checked.the-variants.{Refused, Idle, Read
 use Rattle.definitions.proofs.CheckLaws as CheckLaws
 use Rattle.definitions.proofs.CheckLaws.{strip-width, block-size}
 use Rattle.definitions.proofs.Fits.{Fits, ready-fits}
+use Rattle.blas.specs.Lengths.{FitsArrays}
 
 module _ (k : Checked) (a b out : List Float) where
   pub when-refused : (e : ℕ) → k ≡ Refused e → (pos e ≡ number k) × (out ≡ leaves k a b out)
@@ -38,19 +40,36 @@ routine-kept : (g : Args) → callOf g .routine ≡ g .routine
 unfolding callOf
 routine-kept g = refl
 
+-- C may be longer
+fits-longer : (c : Call) (la lb lc len : ℕ) → lc ≤ len → Fits (c .routine) c la lb lc → Fits (c .routine) c la lb len
+fits-longer c la lb lc len le h = record {
+  routine-is = h .routine-is;
+  some-rows = h .some-rows;
+  some-columns = h .some-columns;
+  square = h .square;
+  ld-a = h .ld-a;
+  ld-b = h .ld-b;
+  ld-c = h .ld-c;
+  room-a = h .room-a;
+  room-b = h .room-b;
+  room-written-b = h .room-written-b;
+  room-c = omega (arith, h .room-c);
+}
+
 module _ (w r : ℤ) (g : Args) (k : Checked) (answer : k ≡ checked w r g) where
   pub small : (e : ℕ) → k ≡ Refused e → e ≤ 30
   small e h = CheckLaws.when-refused w r g e (sym answer ∙ h) .2
 
-  pub goes-on : (v s : ℕ) → v ≡ width w → s ≡ width r → inPlace (g .routine) ≡ false → (c : Call) → k ≡ Ready c
-      → Fits (c .routine) c (g .lena) (g .lenb) (g .lenc) × (inPlace (c .routine) ≡ false) × (0 < v) × (v ≤ 64) × (0 < s) × (s ≤ 64)
-  goes-on v s ev es f c h =
+  -- `lb` is the length of the B that is only read, `len` that of the output
+  pub goes-on : (lb len v s : ℕ) → g .lenb ≡ (if inPlace (g .routine) then len else lb) → g .lenc ≤ len → v ≡ width w → s ≡ width r → (c : Call) → k ≡ Ready c
+      → FitsArrays c (g .lena) lb len × (0 < v) × (v ≤ 64) × (0 < s) × (s ≤ 64)
+  goes-on lb len v s eb lc ev es c h =
       let e = sym answer ∙ h in
       let ok = CheckLaws.when-ready w r g c e in
       let x = strip-width w r g (ok .0) in
-      let y = block-size w r g (ok .0) in (
-        ready-fits w r g c e,
-        ap inPlace (ap (λ (c : Call). c .routine) (ok .2) ∙ routine-kept g) ∙ f,
+      let y = block-size w r g (ok .0) in
+      let is = ap (λ (c : Call). c .routine) (ok .2) ∙ routine-kept g in (
+        subst (λ (n : ℕ). Fits (c .routine) c (g .lena) n len) (eb ∙ ap (λ (f : Routine). if inPlace f then len else lb) (sym is)) (fits-longer c _ _ _ len lc (ready-fits w r g c e)),
         omega (arith, x),
         omega (arith, x),
         omega (arith, y),

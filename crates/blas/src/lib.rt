@@ -1,6 +1,5 @@
 // The direct calls. Each checks its arguments, and what is ready goes strip by strip through the update of its routine.
 ghost use mathlib.Core.Path.{_≡_};
-ghost use mathlib.Core.Bool.{false};
 ghost use Prim.Native.Nat.{ℕ, _+_, _≤_, _<_};
 ghost use lib.ListN.{length};
 ghost use Rattle.definitions.specs.Call as Calls;
@@ -9,52 +8,51 @@ ghost use Rattle.definitions.specs.Check as Check;
 ghost use Rattle.definitions.specs.Direct as Direct;
 ghost use Rattle.definitions.specs.declared.Call.{Call as CallOf};
 ghost use Rattle.definitions.specs.declared.Checked.the-variants.{Refused, Ready};
-ghost use Rattle.definitions.proofs.Fits.{Fits};
+ghost use Rattle.blas.specs.Lengths.{FitsArrays};
 use definitions::Args;
 use definitions::Call;
 use definitions::Checked;
 use definitions::Routine;
 use definitions::Scalar;
 
-// The columns from `from` on of a call that fits and writes C, in blocks of r.
-fn strip(call: Call, a: &[f64], b: &[f64], out: &mut [f64], from: usize, cols: usize, r: usize)
-    requires { ⌜ Fits (call .routine) call (length (now a)) (length (now b)) (length (now out)) × (Calls.inPlace (call .routine) ≡ false) ⌝ }
-    requires { ⌜ (0 < cols) × (cols ≤ 64) × (from + cols ≤ Calls.extent call) × (0 < r) × (r ≤ 64) ⌝ }
-    ensures { λ _. ⌜ now (out .exit) ≡ Element.strip call (now (a .entry)) (now (b .entry)) from (from + cols) (now (out .entry)) ⌝ }
+// The strip of `lines` columns from `from` on, or rows where strips cut rows, of a call that fits, in blocks of r.
+pub fn strip(call: Call, a: &[f64], b: &[f64], out: &mut [f64], from: usize, lines: usize, r: usize)
+    requires { ⌜ FitsArrays call (length (now a)) (length (now b)) (length (now out)) ⌝ }
+    requires { ⌜ (0 < lines) × (lines ≤ 64) × (from + lines ≤ Calls.extent call) × (0 < r) × (r ≤ 64) ⌝ }
+    ensures { λ _. ⌜ now (out .exit) ≡ Element.strip call (now (a .entry)) (now (b .entry)) from (from + lines) (now (out .entry)) ⌝ }
 {
     let routine = call.routine;
-    let ld = call.ldc as usize;
-    let x = from * ld;
+    let x = arguments::strip_start(call, from);
     let part = &mut out[x..];
     match routine {
-        Routine::Gemm => gemm::gemm_strip(call, a, b, part, from, cols, r),
-        Routine::Symm => gemm::symm_strip(call, a, b, part, from, cols, r),
-        Routine::Syrk => rank_update::syrk_strip(call, a, b, part, from, cols, r),
-        Routine::Syr2k => rank_update::syr2k_strip(call, a, b, part, from, cols, r),
-        Routine::Trmm => {}
-        Routine::Trsm => {}
+        Routine::Gemm => gemm::gemm_strip(call, a, b, part, from, lines, r),
+        Routine::Symm => gemm::symm_strip(call, a, b, part, from, lines, r),
+        Routine::Syrk => rank_update::syrk_strip(call, a, b, part, from, lines, r),
+        Routine::Syr2k => rank_update::syr2k_strip(call, a, b, part, from, lines, r),
+        Routine::Trmm => trmm::trmm_strip(call, a, part, from, lines, r),
+        Routine::Trsm => trsm::trsm_strip(call, a, part, from, lines, r),
     }
 }
 
-// All strips of a call that fits and writes C, each of w columns but for the last.
+// All strips of a call that fits, each of w columns or rows but for the last.
 fn complete(call: Call, a: &[f64], b: &[f64], out: &mut [f64], w: usize, r: usize)
-    requires { ⌜ Fits (call .routine) call (length (now a)) (length (now b)) (length (now out)) × (Calls.inPlace (call .routine) ≡ false) ⌝ }
+    requires { ⌜ FitsArrays call (length (now a)) (length (now b)) (length (now out)) ⌝ }
     requires { ⌜ (0 < w) × (w ≤ 64) × (0 < r) × (r ≤ 64) ⌝ }
     ensures { λ _. ⌜ now (out .exit) ≡ Element.result call (now (a .entry)) (now (b .entry)) (now (out .entry)) ⌝ }
 {
     let d = arguments::extent(call);
     let mut from = 0;
     while from < d {
-        let cols = kernel::panels::smaller(w, d - from);
-        strip(call, a, b, out, from, cols, r);
-        from += cols;
+        let lines = kernel::panels::smaller(w, d - from);
+        strip(call, a, b, out, from, lines, r);
+        from += lines;
     }
 }
 
 // What the answer of the check means for the output, and the number to be handed back.
 fn answered(answer: Checked, a: &[f64], b: &[f64], out: &mut [f64], w: usize, r: usize) -> i32
     requires { ⌜ ((e : ℕ) → answer ≡ Refused e → e ≤ 30) ⌝ }
-    requires { ⌜ ((k : CallOf) → answer ≡ Ready k → Fits (k .routine) k (length (now a)) (length (now b)) (length (now out)) × (Calls.inPlace (k .routine) ≡ false) × (0 < w) × (w ≤ 64) × (0 < r) × (r ≤ 64)) ⌝ }
+    requires { ⌜ ((k : CallOf) → answer ≡ Ready k → FitsArrays k (length (now a)) (length (now b)) (length (now out)) × (0 < w) × (w ≤ 64) × (0 < r) × (r ≤ 64)) ⌝ }
     ensures { λ x. ⌜ (x ≡ Check.number answer) × (now (out .exit) ≡ Check.leaves answer (now (a .entry)) (now (b .entry)) (now (out .entry))) ⌝ }
 {
     match answer {
@@ -244,4 +242,102 @@ pub fn syr2k(
     };
     let answer = arguments::check(w, r, g);
     answered(answer, a, b, c, arguments::width(w), arguments::width(r))
+}
+
+// TRMM: B becomes alpha op(A) B (side L) or alpha B op(A) (side R), A triangular. It has no C.
+pub fn trmm(
+    side: i32,
+    uplo: i32,
+    transa: i32,
+    diag: i32,
+    m: i32,
+    n: i32,
+    alpha: f64,
+    a: &[f64],
+    lda: i32,
+    b: &mut [f64],
+    ldb: i32,
+    w: i32,
+    r: i32,
+) -> i32
+    ensures { λ x. ⌜ (x ≡ Direct.trmm side uplo transa diag m n alpha (now (a .entry)) lda (now (b .entry)) ldb w r .number) × (now (b .exit) ≡ Direct.trmm side uplo transa diag m n alpha (now (a .entry)) lda (now (b .entry)) ldb w r .array) ⌝ }
+{
+    let none = [0.0f64; 0];
+    let g = Args {
+        routine: Routine::Trmm,
+        side: side,
+        uplo: uplo,
+        transa: transa,
+        transb: 0,
+        diag: diag,
+        m: m,
+        n: n,
+        k: 0,
+        alpha: Scalar::of(alpha),
+        beta: Scalar::Zero,
+        lda: lda,
+        ldb: ldb,
+        ldc: 0,
+        lena: a.len(),
+        lenb: b.len(),
+        lenc: 0,
+    };
+    let answer = arguments::check(w, r, g);
+    answered(
+        answer,
+        a,
+        &none,
+        b,
+        arguments::width(w),
+        arguments::width(r),
+    )
+}
+
+// TRSM: B becomes X with op(A) X = alpha B (side L) or X op(A) = alpha B (side R), A triangular. It has no C.
+pub fn trsm(
+    side: i32,
+    uplo: i32,
+    transa: i32,
+    diag: i32,
+    m: i32,
+    n: i32,
+    alpha: f64,
+    a: &[f64],
+    lda: i32,
+    b: &mut [f64],
+    ldb: i32,
+    w: i32,
+    r: i32,
+) -> i32
+    ensures { λ x. ⌜ (x ≡ Direct.trsm side uplo transa diag m n alpha (now (a .entry)) lda (now (b .entry)) ldb w r .number) × (now (b .exit) ≡ Direct.trsm side uplo transa diag m n alpha (now (a .entry)) lda (now (b .entry)) ldb w r .array) ⌝ }
+{
+    let none = [0.0f64; 0];
+    let g = Args {
+        routine: Routine::Trsm,
+        side: side,
+        uplo: uplo,
+        transa: transa,
+        transb: 0,
+        diag: diag,
+        m: m,
+        n: n,
+        k: 0,
+        alpha: Scalar::of(alpha),
+        beta: Scalar::Zero,
+        lda: lda,
+        ldb: ldb,
+        ldc: 0,
+        lena: a.len(),
+        lenb: b.len(),
+        lenc: 0,
+    };
+    let answer = arguments::check(w, r, g);
+    answered(
+        answer,
+        a,
+        &none,
+        b,
+        arguments::width(w),
+        arguments::width(r),
+    )
 }

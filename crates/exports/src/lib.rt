@@ -108,3 +108,45 @@ pub extern "C" fn tl_dsyr2k(
 {
     blas::syr2k(uplo, trans, n, k, alpha, a, lda, b, ldb, beta, c, ldc, w, r)
 }
+
+#[no_mangle]
+pub extern "C" fn tl_dtrmm(
+    side: i32,
+    uplo: i32,
+    transa: i32,
+    diag: i32,
+    m: i32,
+    n: i32,
+    alpha: f64,
+    a: &[f64],
+    lda: i32,
+    b: &mut [f64],
+    ldb: i32,
+    w: i32,
+    r: i32,
+) -> i32
+    ensures { λ x. ⌜ (x ≡ Direct.trmm side uplo transa diag m n alpha (now (a .entry)) lda (now (b .entry)) ldb w r .number) × (now (b .exit) ≡ Direct.trmm side uplo transa diag m n alpha (now (a .entry)) lda (now (b .entry)) ldb w r .array) ⌝ }
+{
+    blas::trmm(side, uplo, transa, diag, m, n, alpha, a, lda, b, ldb, w, r)
+}
+
+#[no_mangle]
+pub extern "C" fn tl_dtrsm(
+    side: i32,
+    uplo: i32,
+    transa: i32,
+    diag: i32,
+    m: i32,
+    n: i32,
+    alpha: f64,
+    a: &[f64],
+    lda: i32,
+    b: &mut [f64],
+    ldb: i32,
+    w: i32,
+    r: i32,
+) -> i32
+    ensures { λ x. ⌜ (x ≡ Direct.trsm side uplo transa diag m n alpha (now (a .entry)) lda (now (b .entry)) ldb w r .number) × (now (b .exit) ≡ Direct.trsm side uplo transa diag m n alpha (now (a .entry)) lda (now (b .entry)) ldb w r .array) ⌝ }
+{
+    blas::trsm(side, uplo, transa, diag, m, n, alpha, a, lda, b, ldb, w, r)
+}

@@ -57,8 +57,8 @@ pub fn multiply(
         );
         return;
     }
-    // Two calls, so that the compiler keeps the buffers out of the frame in which a tiny product runs.
-    if down {
+    // A product within a block of 32 has the same blocks for any larger r. The two calls keep the buffers out of the frame in which a tiny product runs.
+    if (rows <= 32) & (k <= 32) & (32 < r) {
         panels::blocked(
             c,
             ld,
@@ -74,8 +74,8 @@ pub fn multiply(
             ldb,
             j0,
             alpha,
-            true,
-            r,
+            down,
+            32,
         );
         return;
     }
@@ -94,7 +94,7 @@ pub fn multiply(
         ldb,
         j0,
         alpha,
-        false,
+        down,
         r,
     );
 }

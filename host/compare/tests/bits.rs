@@ -102,3 +102,26 @@ fn sizes_around_multiples_of_64() {
         }
     }
 }
+
+/// The triangle that is not read, and a diagonal that counts as 1, hold nothing but NaN.
+#[test]
+fn a_triangle_beside_nans() {
+    for routine in routines().into_iter().filter(|routine| routine.in_place()) {
+        let combinations = combinations(routine, &['L', 'R'], &['L', 'U'], &['N', 'T'], &['U', 'N']);
+        for (options, index) in combinations.iter().zip(0..) {
+            for (round, size) in [1, 2, 7, 20, 65, 130].into_iter().enumerate() {
+                agree(&format!("beside NaNs {routine:?}"), 6 * index + round as u64, |random| {
+                    let mut case = large(random, routine, |call| {
+                        take_options(call, options);
+                        (call.m, call.n) = (size, size);
+                    });
+                    let (call, ld) = (case.call, case.call.lda as usize);
+                    let unread = |i, j| if i == j { call.unit() } else { (i < j) != call.upper() };
+                    let a = &mut case.a[0];
+                    (0..a.len()).filter(|p| unread(p % ld, p / ld)).for_each(|p| a[p] = f64::NAN);
+                    case
+                });
+            }
+        }
+    }
+}

@@ -262,3 +262,42 @@ fn trsm_with_ascending_terms_in_a_backward_solve() {
     };
     assert!(told_apart(Routine::Trsm, &wrong).is_some());
 }
+
+#[test]
+fn trmm_that_reads_what_it_has_written() {
+    let wrong = |call: &Call, a: &[f64], b: &[f64], out: &mut [f64]| {
+        let below = !call.right() && !call.upper() && !call.transposed_a();
+        if !below || call.start_only() || check(call, a.len(), b.len(), out.len()) != 0 {
+            return direct(call, a, b, out);
+        }
+        for j in 0..call.n as usize {
+            for i in 0..call.m as usize {
+                let u = |l| if l == i && call.unit() { 1.0 } else { entry(a, call.lda, i, l) };
+                let e = (0..=i).fold(0.0, |e, l| add(call, e, (u(l), entry(out, call.ldb, l, j))));
+                out[j * call.ldb as usize + i] = e;
+            }
+        }
+        0
+    };
+    assert!(told_apart(Routine::Trmm, &wrong).is_some());
+}
+
+#[test]
+fn trsm_that_multiplies_by_the_reciprocal() {
+    let wrong = |call: &Call, a: &[f64], b: &[f64], out: &mut [f64]| {
+        let forward = !call.right() && !call.upper() && !call.transposed_a() && !call.unit();
+        if !forward || call.start_only() || check(call, a.len(), b.len(), out.len()) != 0 {
+            return direct(call, a, b, out);
+        }
+        for j in 0..call.n as usize {
+            for i in 0..call.m as usize {
+                let start = call.alpha * entry(out, call.ldb, i, j);
+                let term = |e, l| e + -entry(out, call.ldb, l, j) * entry(a, call.lda, i, l);
+                let e: f64 = (0..i).fold(start, term);
+                out[j * call.ldb as usize + i] = e * (1.0 / entry(a, call.lda, i, i));
+            }
+        }
+        0
+    };
+    assert!(told_apart(Routine::Trsm, &wrong).is_some());
+}

@@ -24,7 +24,7 @@ enum-known-answer-2 c = search needs
 complete-requires : tie.Need-complete-requires
 complete-requires c κs =
     let h = c .before .before .before .before .before .before .before .pre .1 _ (c .before .before .answer2 .given .1) in
-    ((h .0, h .1), omega (arith, h))
+    (h .0, omega (arith, h))
 
 returns : tie.Need-returns
 returns c =

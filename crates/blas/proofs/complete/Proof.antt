@@ -1,4 +1,4 @@
--- `blas::complete` goes through the strips from left to right: what stands after each is one strip of all columns so far.
+-- `blas::complete` goes through the strips in turn: what stands after each is one strip of all columns, or rows, so far.
 -- Assumes nothing.
 use Prim.Native.Nat.{_-_, _≤_, _<_}
 use mathlib.Core.Path.{_≡_, refl, sym, _∙_}
@@ -16,7 +16,7 @@ Inv-loop call a b out₀ w r d from₀ out from = (from ≤ d) × (length out �
 abbrev μ-loop : tie.MeasureT-loop
 μ-loop call a b out₀ w r d from₀ out from = d - from
 
--- a strip has a column
+-- a strip has a column, or a row
 more : (c : tie.After-smaller Inv-loop μ-loop) → 0 < c .smaller .result
 more c = c .smaller .ensures .2 (omega (arith, c .before .before .before .before .before .before .before .pre .1)) (omega arith)
 
@@ -34,7 +34,7 @@ smaller-requires c κs = tt
 
 strip-requires : tie.Need-strip-requires Inv-loop μ-loop
 strip-requires c κs = (
-  (fits-still _ (c .before .before .before .before .before .before .before .before .args .call) _ _ _ _ (c .before .before .before .loop .inv .1) (c .before .before .before .before .before .before .before .before .pre .0 .0), c .before .before .before .before .before .before .before .before .pre .0 .1),
+  fits-still (c .before .before .before .before .before .before .before .before .args .call) _ _ _ _ (c .before .before .before .loop .inv .1) (c .before .before .before .before .before .before .before .before .pre .0),
   (more (c .before), omega (arith, c .before .before .before .before .before .before .before .before .pre .1), omega (arith, c .before .before .before .before .extent .ensures .0), omega (arith, c .before .before .before .before .before .before .before .before .pre .1), omega (arith, c .before .before .before .before .before .before .before .before .pre .1)),
 )
 
@@ -48,7 +48,7 @@ loop-again : tie.Need-loop-again Inv-loop μ-loop
 loop-again c = (
   omega arith,
   length-strip _ _ _ _ _ _ _ (c .before .before .strip .ensures) ∙ c .before .before .before .before .before .before .loop .inv .1,
-  strip-next (c .before .before .before .before .before .before .before .before .before .before .before .args .call) _ _ _ _ _ _ _ _ _ _ (c .before .before .before .before .before .before .before .before .before .before .before .pre .0 .0) (omega arith) (c .before .before .before .before .before .before .loop .inv .2) (c .before .before .strip .ensures),
+  strip-next (c .before .before .before .before .before .before .before .before .before .before .before .args .call) _ _ _ _ _ _ _ _ _ _ (c .before .before .before .before .before .before .before .before .before .before .before .pre .0) (omega arith) (c .before .before .before .before .before .before .loop .inv .2) (c .before .before .strip .ensures),
 )
 
 same-length : tie.Need-same-length Inv-loop μ-loop

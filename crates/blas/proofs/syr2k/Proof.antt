@@ -1,5 +1,6 @@
 -- `blas::syr2k` is the direct call of the definitions: its words go through their bits once.
 -- Assumes nothing.
+use native.Mathlib.Omega.{arith}
 use mathlib.Core.Path.{_≡_, refl, ap, _∙_}
 use lib.ListN.{length}
 use denote.Ref.{now}
@@ -59,7 +60,7 @@ unfolding inPlace
 answered-requires c κs =
     let e = answer (c .before .before .before) in (
       small (c .before .before .before .before .before .before .before .before .before .args .w) (c .before .before .before .before .before .before .before .before .before .args .r) (given (c .before .before .before .before .before .before .before .before .before)) _ e,
-      goes-on (c .before .before .before .before .before .before .before .before .before .args .w) (c .before .before .before .before .before .before .before .before .before .args .r) (given (c .before .before .before .before .before .before .before .before .before)) _ e _ _ (c .before .width .ensures ∙ ap width (toZ-ofZ w32 (c .before .before .before .before .before .before .before .before .before .args .w) (c .before .before .before .before .before .before .before .before .before .fits .w))) (c .width2 .ensures ∙ ap width (toZ-ofZ w32 (c .before .before .before .before .before .before .before .before .before .args .r) (c .before .before .before .before .before .before .before .before .before .fits .r))) refl,
+      goes-on (c .before .before .before .before .before .before .before .before .before .args .w) (c .before .before .before .before .before .before .before .before .before .args .r) (given (c .before .before .before .before .before .before .before .before .before)) _ e _ _ _ _ refl (omega arith) (c .before .width .ensures ∙ ap width (toZ-ofZ w32 (c .before .before .before .before .before .before .before .before .before .args .w) (c .before .before .before .before .before .before .before .before .before .fits .w))) (c .width2 .ensures ∙ ap width (toZ-ofZ w32 (c .before .before .before .before .before .before .before .before .before .args .r) (c .before .before .before .before .before .before .before .before .before .fits .r))),
     )
 
 same-length : tie.Need-same-length

@@ -18,13 +18,13 @@ returns : tie.Need-returns
 returns c = search needs
 
 blocked-requires : tie.Need-blocked-requires
-blocked-requires c κs = search needs
+blocked-requires c κs = (omega arith, c .before .before .before .before .before .before .before .pre .1)
 
 same-length-2 : tie.Need-same-length-2
 same-length-2 c = search needs
 
 returns-2 : tie.Need-returns-2
-returns-2 c = rw (c .before .before .before .before .if2 .taken) (c .before .before .blocked .ensures)
+returns-2 c = search needs
 
 blocked-requires-2 : tie.Need-blocked-requires-2
 blocked-requires-2 c κs = search needs
@@ -33,7 +33,7 @@ same-length-3 : tie.Need-same-length-3
 same-length-3 c = search needs
 
 returns-3 : tie.Need-returns-3
-returns-3 c = rw (c .before .before .before .before .if2 .left) (c .before .before .blocked2 .ensures)
+returns-3 c = search needs
 
 pub multiply-spec : {M : Type 1} → statement M
 multiply-spec =
