@@ -45,15 +45,15 @@ module _ {M : Type 0} where
     abbrev at : M → List ℤ → ℕ → ℕ → State M
     at m answers p s = record { arrays = m; answers = answers; p = p; s = s }
 
-    step-finished : (st : State M) → st .p ≡ count → step count act st ≡ st
+    pub step-finished : (st : State M) → st .p ≡ count → step count act st ≡ st
     unfolding step finished
     step-finished st h = if-true (eqb (st .p) count) _ _ (eq-eqb (st .p) count h)
 
-    step-acts : (st : State M) → st .p < count → step count act st ≡ perform (act (st .p) (st .arrays)) st
+    pub step-acts : (st : State M) → st .p < count → step count act st ≡ perform (act (st .p) (st .arrays)) st
     unfolding step finished
     step-acts st h = if-false (eqb (st .p) count) _ _ (ne-eqb (st .p) count (λ e. omega arith))
 
-    iterate-finished : (n : ℕ) (st : State M) → st .p ≡ count → iterate count act n st ≡ st
+    pub iterate-finished : (n : ℕ) (st : State M) → st .p ≡ count → iterate count act n st ≡ st
     unfolding iterate
     iterate-finished zero st h = refl
     iterate-finished (suc n) st h = ap (iterate count act n) (step-finished st h) ∙ iterate-finished n st h
@@ -65,12 +65,12 @@ module _ {M : Type 0} where
     iterate-add zero n st = rw zero-add
     iterate-add (suc m) n st = rw suc-add (iterate-add m n (step count act st))
 
-    made-finished : (n : ℕ) (st : State M) → finished count act st ≡ true → made count act n st ≡ 0
+    pub made-finished : (n : ℕ) (st : State M) → finished count act st ≡ true → made count act n st ≡ 0
     unfolding made
     made-finished zero st h = refl
     made-finished (suc n) st h = if-true (finished count act st) 0 _ h
 
-    made-acts : (n : ℕ) (st : State M) → finished count act st ≡ false → made count act (suc n) st ≡ suc (made count act n (step count act st))
+    pub made-acts : (n : ℕ) (st : State M) → finished count act st ≡ false → made count act (suc n) st ≡ suc (made count act n (step count act st))
     unfolding made
     made-acts n st h = if-false (finished count act st) 0 _ h
 
@@ -123,7 +123,7 @@ module _ {M : Type 0} where
           }))
           (λ t. rw t (record { within = omega arith; at-strip = λ z. absurd (let f : ⊥ = omega arith in f) }))
 
-      placed-step : (st : State M) → Placed st → Placed (step count act st)
+      pub placed-step : (st : State M) → Placed st → Placed (step count act st)
       unfolding step finished
       placed-step st h =
           by-test (eqb (st .p) count)

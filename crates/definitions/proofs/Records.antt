@@ -43,7 +43,7 @@ array-twice l zero v w = refl
 array-twice l (suc zero) v w = refl
 array-twice l (suc (suc k)) v w = refl
 
-array-self : (l : Arrays) (k : ℕ) → withArray l k (array l k) ≡ l
+pub array-self : (l : Arrays) (k : ℕ) → withArray l k (array l k) ≡ l
 unfolding array withArray
 array-self l zero = refl
 array-self l (suc zero) = refl
@@ -101,7 +101,7 @@ any-member test (x ∷ xs) q h m =
     (λ e. any-member test xs q (or-right (test x) _ h) (rw e at m))
 
 -- whether the routine reads the matrix whose array number is word q
-abbrev reads : Routine → ℕ → Bool
+abbrev pub reads : Routine → ℕ → Bool
 reads f q = any (λ x. eqb x q) (inputs f)
 
 module _ (t : Sheet) (p : ℕ) (f : Routine) (ok : badArrays t p f ≡ false) where
@@ -116,23 +116,25 @@ module _ (t : Sheet) (p : ℕ) (f : Routine) (ok : badArrays t p f ≡ false) wh
   unfolding badArrays far
   apart = or-right (any far (output f ∷ inputs f)) (any (λ q. eqb (nat (field t p q)) (nat (field t p (output f)))) (inputs f)) ok
 
-  output-small : nat (field t p (output f)) ≤ 2
+  pub output-small : nat (field t p (output f)) ≤ 2
   unfolding far any
   output-small = ltb-false 2 _ (or-right (negative (field t p (output f))) _ (or-left (far (output f)) _ numbers-ok))
 
-  input-small : (q : ℕ) → reads f q ≡ true → nat (field t p q) ≤ 2
+  pub input-small : (q : ℕ) → reads f q ≡ true → nat (field t p q) ≤ 2
   unfolding far any
   input-small q m = ltb-false 2 _ (or-right (negative (field t p q)) _ (any-member far (inputs f) q (or-right (far (output f)) _ numbers-ok) m))
+
+  pub input-apart : (q : ℕ) → reads f q ≡ true → nat (field t p q) ≡ nat (field t p (output f)) → ⊥
+  input-apart q m = eqb-false _ _ (any-member (λ q. eqb (nat (field t p q)) (nat (field t p (output f)))) (inputs f) q apart m)
 
   -- a matrix that the routine reads is kept where the output's array is written
   input-kept : (q : ℕ) → reads f q ≡ true → (l : Arrays) (v : List Float) → part t p q (withArray l (nat (field t p (output f))) v) ≡ part t p q l
   unfolding part
   input-kept q m l v =
       ap (λ (xs : List Float). drop (nat (field t p (q + 1))) xs)
-      (array-other l (nat (field t p (output f))) (nat (field t p q)) v output-small (input-small q m)
-      (eqb-false _ _ (any-member (λ q. eqb (nat (field t p q)) (nat (field t p (output f)))) (inputs f) q apart m)))
+      (array-other l (nat (field t p (output f))) (nat (field t p q)) v output-small (input-small q m) (input-apart q m))
 
-reads-A : (f : Routine) → reads f A ≡ true
+pub reads-A : (f : Routine) → reads f A ≡ true
 unfolding inputs any
 reads-A Gemm = refl
 reads-A Symm = refl
@@ -153,7 +155,7 @@ value-without-B c Trmm a b b′ out e m =
 value-without-B c Trsm a b b′ out e m =
     ap (value Trsm c a) (if-true (inPlace (c .routine)) out b (ap inPlace e) ∙ sym (if-true (inPlace (c .routine)) out b′ (ap inPlace e)))
 
-strip-without-B : (c : Call) (a b b′ : List Float) (from to : ℕ) (out : List Float) → reads (c .routine) B ≡ false → strip c a b from to out ≡ strip c a b′ from to out
+pub strip-without-B : (c : Call) (a b b′ : List Float) (from to : ℕ) (out : List Float) → reads (c .routine) B ≡ false → strip c a b from to out ≡ strip c a b′ from to out
 unfolding strip
 strip-without-B c a b b′ from to out m =
     ap (λ (v : EntryMap Float). update (entries (ldOutput c) (only (writes c from to) v)) out) (value-without-B c (c .routine) a b b′ out refl m)
@@ -242,16 +244,23 @@ when-accepted t p size f h =
     (λ o. absurd (let z : 33 ≡ 0 = sym (if-true _ 33 _ o) ∙ h1 in let n : ⊥ = omega arith in n))
     (λ o. record { arrays-ok = a; offsets-ok = o; direct-ok = sym (if-false _ 33 _ o) ∙ h1 }))
 
-output-fits : (t : Sheet) (p : ℕ) (l : Arrays) (f : Routine) → badOffsets t p f (lengths l) ≡ false
+pub output-fits : (t : Sheet) (p : ℕ) (l : Arrays) (f : Routine) → badOffsets t p f (lengths l) ≡ false
     → nat (field t p (output f + 1)) ≤ length (array l (nat (field t p (output f))))
 unfolding badOffsets lengths any
 output-fits t p l f h = ltb-false _ _ (or-right (negative (field t p (output f + 1))) _ (or-left _ (any _ (inputs f)) h))
+
+pub input-fits : (t : Sheet) (p : ℕ) (size : ℕ → ℕ) (f : Routine) → badOffsets t p f size ≡ false → (q : ℕ) → reads f q ≡ true
+    → nat (field t p (q + 1)) ≤ size (nat (field t p q))
+unfolding badOffsets any
+input-fits t p size f h q m =
+    let bad : ℕ → Bool = λ q. negative (field t p (q + 1)) || ltb (size (nat (field t p q))) (nat (field t p (q + 1))) in
+    ltb-false _ _ (or-right (negative (field t p (q + 1))) _ (any-member bad (inputs f) q (or-right (bad (output f)) _ h) m))
 
 -- the record's call
 abbrev pub recordCall : Sheet → ℕ → (ℕ → ℕ) → Routine → Call
 recordCall t p size f = callOf (argsOf t p f size)
 
-record-routine : (t : Sheet) (p : ℕ) (size : ℕ → ℕ) (f : Routine) → recordCall t p size f .routine ≡ f
+pub record-routine : (t : Sheet) (p : ℕ) (size : ℕ → ℕ) (f : Routine) → recordCall t p size f .routine ≡ f
 unfolding callOf argsOf
 record-routine t p size f = refl
 

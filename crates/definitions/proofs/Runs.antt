@@ -2,14 +2,15 @@
 -- Assumes nothing.
 use Prim.Native.Nat.{ℕ, zero, suc, _+_}
 use mathlib.Core.Path.{_≡_, refl, sym, ap, subst, _∙_}
-use mathlib.Core.Bool.{true, false}
+use mathlib.Core.Bool.{true, false, true≢false}
 use mathlib.Core.List.{List, [], _∷_}
 use native.Mathlib.Omega.{arith}
 use lib.Dec.{leb, eqb}
-use lib.IntN.{ℤ, pos}
+use lib.IntN.{ℤ, pos, negsuc}
 use lib.ListN.{length, replicate}
-use borrow.Author.Tests.{eq-eqb, le-ltb, lt-leb}
-use Rattle.arrays.proofs.Tests.{or-both, if-true}
+use borrow.Author.Tests.{eq-eqb, le-ltb, lt-leb, ltb-false, leb-false}
+use Rattle.arrays.proofs.Tests.{or-both, or-left, or-right, if-true}
+use Rattle.definitions.specs.Check.{nat}
 use Rattle.definitions.specs.Machine.{stripsOf, iterate, made}
 use Rattle.definitions.specs.Sheet.{Sheet, Arrays, sound, records, act}
 use Rattle.definitions.specs.Run.{Machine, begin, after, stepsMade, tooShort, badCursor, runRefusal, Ran, ranTo, run, runs, last, totalSteps, numbers, sum}
@@ -24,12 +25,26 @@ cursor-ok t l answers p (suc s) h =
     let k = h .at-strip (omega arith) in
     or-both (leb (records t) p) (leb (stripsOf (act t p l)) (suc s)) (lt-leb (records t) p (k .0)) (lt-leb (stripsOf (act t p l)) (suc s) (k .1))
 
+-- and a cursor that 36 does not refuse is a sound one
+pub cursor-placed : (t : Sheet) (l : Arrays) (answers : List ℤ) (p s : ℤ) → badCursor t l p s ≡ false
+    → (p ≡ pos (nat p)) × (s ≡ pos (nat s)) × Placed (records t) (act t) (begin l answers (nat p) (nat s))
+unfolding badCursor begin
+cursor-placed t l answers p (negsuc s) h = absurd (true≢false h)
+cursor-placed t l answers (negsuc p) (pos zero) h = absurd (true≢false h)
+cursor-placed t l answers (pos p) (pos zero) h =
+    (refl, refl, record { within = ltb-false (records t) p h; at-strip = λ z. absurd (let f : ⊥ = omega arith in f) })
+cursor-placed t l answers (negsuc p) (pos (suc s)) h = absurd (true≢false h)
+cursor-placed t l answers (pos p) (pos (suc s)) h =
+    let before = leb-false (records t) p (or-left (leb (records t) p) _ h) in
+    let strip = leb-false (stripsOf (act t p l)) (suc s) (or-right (leb (records t) p) _ h) in
+    (refl, refl, record { within = omega arith; at-strip = λ _. (before, strip) })
+
 module _ (t : Sheet) (trailer : sound t ≡ true) where
   abbrev Goes : Machine → Type 0
   Goes st = Placed (records t) (act t) st
 
   -- an accepted run is the machine
-  run-is : (b : ℕ) (st : Machine) → tooShort t (st .answers) ≡ false → Goes st
+  pub run-is : (b : ℕ) (st : Machine) → tooShort t (st .answers) ≡ false → Goes st
       → run t b (st .arrays) (st .answers) (pos (st .p)) (pos (st .s)) ≡ ranTo (after t b st) (stepsMade t b st)
   unfolding run runRefusal begin
   run-is b st long h = if-true (eqb (runRefusal t (st .arrays) (st .answers) (pos (st .p)) (pos (st .s))) 0) _ _ (eq-eqb _ 0 zero-number)

@@ -4,7 +4,7 @@ use Prim.Native.Nat.{ℕ, zero, suc, _+_, _-_, _*_, _/_, _%_, _≤_, _<_}
 use mathlib.Core.Path.{_≡_, refl, sym, ap, subst, _∙_}
 use mathlib.Core.Bool.{Bool, true, false, _&&_}
 use mathlib.Core.List.{List}
-use native.Mathlib.Nat.{zero-mul, suc-mul, mod-lt, div-add-mod'}
+use native.Mathlib.Nat.{zero-mul, suc-mul, mul-le-mul-right, mod-lt, div-add-mod'}
 use native.Mathlib.Omega.{arith}
 use lib.Dec.{leb, ltb, eqb}
 use lib.Ieee.{Float, nan}
@@ -179,6 +179,20 @@ ceil d w h =
     let e : (d + w - 1) / w * w + (d + w - 1) % w ≡ d + w - 1 = div-add-mod' (d + w - 1) w in
     let m : (d + w - 1) % w < w = mod-lt (d + w - 1) h in
     omega arith
+
+-- a strip of a call that has elements begins below the extent
+pub strip-begins : (c : Call) (w s : ℕ) → 0 < w → empty c ≡ false → s < strips w c → s * w < extent c
+unfolding strips
+strip-begins c w s wide some h =
+    let q = (extent c + w - 1) / w in
+    let below : suc s ≤ q = rw some at h in
+    let e : q * w + (extent c + w - 1) % w ≡ extent c + w - 1 = div-add-mod' (extent c + w - 1) w in
+    omega (arith, mul-le-mul-right w below, suc-mul s w)
+
+-- and a strip that is cut off at the extent is the whole of it
+pub strip-clipped : (c : Call) (a b : List Float) (from to : ℕ) (out : List Float) → (inPlace (c .routine) ≡ true → c .m ≤ c .ldb)
+    → from ≤ extent c → extent c ≤ to → strip c a b from (extent c) out ≡ strip c a b from to out
+strip-clipped c a b from to out room h k = sym (strip-beyond c a b (extent c) to _ (omega arith)) ∙ strip-join c a b out from (extent c) room to h k
 
 module _ (c : Call) (a b : List Float) (w : ℕ) (wide : 0 < w) (room : inPlace (c .routine) ≡ true → c .m ≤ c .ldb) (out : List Float) where
   some-strips : (n : ℕ) → inTurn c a b w n out ≡ strip c a b 0 (n * w) out

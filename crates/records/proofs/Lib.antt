@@ -1,0 +1,3 @@
+pub mod Judgements
+pub mod Acts
+pub mod Trailer

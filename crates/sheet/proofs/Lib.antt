@@ -1,0 +1,4 @@
+pub mod Strips
+pub mod Steps
+pub mod Ends
+pub mod Demand
