@@ -57,7 +57,7 @@ pub fn multiply(
         );
         return;
     }
-    // A product within a block of 32 has the same blocks for any larger r. The two calls keep the buffers out of the frame in which a tiny product runs.
+    // A product within a block of 32 has the same blocks for any larger r.
     if (rows <= 32) & (k <= 32) & (32 < r) {
         panels::blocked(
             c,
