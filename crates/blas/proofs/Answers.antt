@@ -19,7 +19,7 @@ use Rattle.definitions.specs.declared.Checked.the-variants.{Refused, Idle, Read
 use Rattle.definitions.proofs.CheckLaws as CheckLaws
 use Rattle.definitions.proofs.CheckLaws.{strip-width, block-size}
 use Rattle.definitions.proofs.Fits.{Fits, ready-fits}
-use Rattle.blas.specs.Lengths.{FitsArrays}
+use Rattle.strips.specs.Lengths.{FitsArrays}
 
 module _ (k : Checked) (a b out : List Float) where
   pub when-refused : (e : ℕ) → k ≡ Refused e → (pos e ≡ number k) × (out ≡ leaves k a b out)

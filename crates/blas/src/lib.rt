@@ -8,31 +8,12 @@ ghost use Rattle.definitions.specs.Check as Check;
 ghost use Rattle.definitions.specs.Direct as Direct;
 ghost use Rattle.definitions.specs.declared.Call.{Call as CallOf};
 ghost use Rattle.definitions.specs.declared.Checked.the-variants.{Refused, Ready};
-ghost use Rattle.blas.specs.Lengths.{FitsArrays};
+ghost use Rattle.strips.specs.Lengths.{FitsArrays};
 use definitions::Args;
 use definitions::Call;
 use definitions::Checked;
 use definitions::Routine;
 use definitions::Scalar;
-
-// The strip of `lines` columns from `from` on, or rows where strips cut rows, of a call that fits, in blocks of r.
-pub fn strip(call: Call, a: &[f64], b: &[f64], out: &mut [f64], from: usize, lines: usize, r: usize)
-    requires { ⌜ FitsArrays call (length (now a)) (length (now b)) (length (now out)) ⌝ }
-    requires { ⌜ (0 < lines) × (lines ≤ 64) × (from + lines ≤ Calls.extent call) × (0 < r) × (r ≤ 64) ⌝ }
-    ensures { λ _. ⌜ now (out .exit) ≡ Element.strip call (now (a .entry)) (now (b .entry)) from (from + lines) (now (out .entry)) ⌝ }
-{
-    let routine = call.routine;
-    let x = arguments::strip_start(call, from);
-    let part = &mut out[x..];
-    match routine {
-        Routine::Gemm => gemm::gemm_strip(call, a, b, part, from, lines, r),
-        Routine::Symm => gemm::symm_strip(call, a, b, part, from, lines, r),
-        Routine::Syrk => rank_update::syrk_strip(call, a, b, part, from, lines, r),
-        Routine::Syr2k => rank_update::syr2k_strip(call, a, b, part, from, lines, r),
-        Routine::Trmm => trmm::trmm_strip(call, a, part, from, lines, r),
-        Routine::Trsm => trsm::trsm_strip(call, a, part, from, lines, r),
-    }
-}
 
 // All strips of a call that fits, each of w columns or rows but for the last.
 fn complete(call: Call, a: &[f64], b: &[f64], out: &mut [f64], w: usize, r: usize)
@@ -44,7 +25,7 @@ fn complete(call: Call, a: &[f64], b: &[f64], out: &mut [f64], w: usize, r: usiz
     let mut from = 0;
     while from < d {
         let lines = kernel::panels::smaller(w, d - from);
-        strip(call, a, b, out, from, lines, r);
+        strips::strip(call, a, b, out, from, lines, r);
         from += lines;
     }
 }

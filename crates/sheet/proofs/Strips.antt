@@ -28,7 +28,7 @@ use Rattle.definitions.proofs.Fits.{Fits, Room, ready-fits}
 use Rattle.definitions.proofs.CheckLaws.{room-in-place}
 use Rattle.definitions.proofs.Strips.{strip-clipped}
 use Rattle.definitions.proofs.Records.{reads, reads-A, output-small, input-small, input-apart, input-fits, output-fits, strip-without-B, Accepted, recordCall, record-routine}
-use Rattle.blas.specs.Lengths.{FitsArrays}
+use Rattle.strips.specs.Lengths.{FitsArrays}
 use Rattle.records.specs.Judgement.{second, partAt}
 use Rattle.records.specs.declared.Part.{Part}
 use Rattle.records.proofs.Judgements.{field-is}

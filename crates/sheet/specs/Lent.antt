@@ -11,7 +11,7 @@ use Rattle.definitions.specs.Sheet.{Arrays, array, withArray}
 use Rattle.definitions.specs.Run.{Ran}
 use Rattle.definitions.specs.declared.Call.{Call}
 use Rattle.definitions.specs.declared.RunEnd.{RunEnd}
-use Rattle.blas.specs.Lengths.{FitsArrays}
+use Rattle.strips.specs.Lengths.{FitsArrays}
 use Rattle.records.specs.declared.Part.{Part}
 
 -- What a run handed back and left in the lent lists.

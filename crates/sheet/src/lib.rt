@@ -12,7 +12,7 @@ ghost use Rattle.definitions.specs.Sheet as Sheet;
 ghost use Rattle.definitions.specs.Sheet.{Arrays};
 ghost use Rattle.definitions.specs.Run as Run;
 ghost use Rattle.definitions.proofs.MachineLaws.{Placed};
-ghost use Rattle.blas.specs.Lengths.{FitsArrays};
+ghost use Rattle.strips.specs.Lengths.{FitsArrays};
 ghost use Rattle.records.specs.Judgement as Judgement;
 ghost use Rattle.sheet.specs.Lent as Lent;
 ghost use Rattle.records.specs.Judgement.{arraysOf};
@@ -71,7 +71,7 @@ fn lend<'a>(
 {
     let a = pick(ina, x, y);
     let b = pick(inb, x, y);
-    blas::strip(call, &a[offa..], &b[offb..], &mut out[off..], from, cols, r);
+    strips::strip(call, &a[offa..], &b[offb..], &mut out[off..], from, cols, r);
 }
 
 // The same, on the arrays: the output's is lent for writing, the other two for reading.

@@ -5,7 +5,7 @@ use mathlib.Core.Path.{_≡_, refl, sym, _∙_}
 use lib.ListN.{length}
 use Rattle.definitions.specs.Element.{strip}
 use Rattle.definitions.proofs.Strips.{strip-none}
-use Rattle.blas.proofs.Lent.{fits-still, strip-next, strips-end, length-strip}
+use Rattle.strips.proofs.Lent.{fits-still, strip-next, strips-end, length-strip}
 use native.Mathlib.Omega.{arith}
 use Rattle.blas.proofs.complete.Statement.{statement}
 use Rattle.blas.proofs.complete.Tie as tie

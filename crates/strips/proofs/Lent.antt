@@ -21,7 +21,7 @@ use Rattle.definitions.specs.declared.Call.{Call}
 use Rattle.definitions.proofs.Fits.{Room, Fits, entry-inside, output-fits}
 use Rattle.definitions.proofs.Strips.{strip-join}
 use Rattle.arguments.specs.Strip.{stripStart}
-use Rattle.blas.specs.Lengths.{FitsArrays}
+use Rattle.strips.specs.Lengths.{FitsArrays}
 
 -- ---- one strip
 

@@ -1,4 +1,4 @@
--- `blas::strip` lends the part of the output from the strip's start on to the routine's update.
+-- `strips::strip` lends the part of the output from the strip's start on to the routine's update.
 -- Assumes nothing.
 use Prim.Native.Nat.{_≤_}
 use mathlib.Core.Path.{refl}
@@ -7,11 +7,11 @@ use denote.Ref.{now}
 use Rattle.definitions.specs.Call.{inPlace}
 use Rattle.definitions.specs.declared.Routine.the-variants.{Gemm, Symm, Syrk, Syr2k, Trmm, Trsm}
 use Rattle.arguments.specs.Strip.{stripStart}
-use Rattle.blas.proofs.Lent.{start-inside, put-strip, start-in-C, columns-of-C, fits-C, start-in-B, fits-B}
+use Rattle.strips.proofs.Lent.{start-inside, put-strip, start-in-C, columns-of-C, fits-C, start-in-B, fits-B}
 use native.Mathlib.Omega.{arith}
 use borrow.Author.Needs.{needs}
-use Rattle.blas.proofs.strip.Statement.{statement}
-use Rattle.blas.proofs.strip.Tie as tie
+use Rattle.strips.proofs.strip.Statement.{statement}
+use Rattle.strips.proofs.strip.Tie as tie
 
 start : (s : tie.Start) → stripStart (s .args .call) (s .args .from) ≤ length (now (s .args .out))
 start s = start-inside (s .args .call) _ _ _ _ (s .args .lines) (s .pre .0) (omega (arith, s .pre .1)) (omega (arith, s .pre .1))

@@ -1,0 +1,28 @@
+// One strip of a call of any of the six routines.
+ghost use mathlib.Core.Path.{_≡_};
+ghost use Prim.Native.Nat.{_+_, _≤_, _<_};
+ghost use lib.ListN.{length};
+ghost use Rattle.definitions.specs.Call as Calls;
+ghost use Rattle.definitions.specs.Element as Element;
+ghost use Rattle.strips.specs.Lengths.{FitsArrays};
+use definitions::Call;
+use definitions::Routine;
+
+// The strip of `lines` columns from `from` on, or rows where strips cut rows, of a call that fits, in blocks of r.
+pub fn strip(call: Call, a: &[f64], b: &[f64], out: &mut [f64], from: usize, lines: usize, r: usize)
+    requires { ⌜ FitsArrays call (length (now a)) (length (now b)) (length (now out)) ⌝ }
+    requires { ⌜ (0 < lines) × (lines ≤ 64) × (from + lines ≤ Calls.extent call) × (0 < r) × (r ≤ 64) ⌝ }
+    ensures { λ _. ⌜ now (out .exit) ≡ Element.strip call (now (a .entry)) (now (b .entry)) from (from + lines) (now (out .entry)) ⌝ }
+{
+    let routine = call.routine;
+    let x = arguments::strip_start(call, from);
+    let part = &mut out[x..];
+    match routine {
+        Routine::Gemm => gemm::gemm_strip(call, a, b, part, from, lines, r),
+        Routine::Symm => gemm::symm_strip(call, a, b, part, from, lines, r),
+        Routine::Syrk => rank_update::syrk_strip(call, a, b, part, from, lines, r),
+        Routine::Syr2k => rank_update::syr2k_strip(call, a, b, part, from, lines, r),
+        Routine::Trmm => trmm::trmm_strip(call, a, part, from, lines, r),
+        Routine::Trsm => trsm::trsm_strip(call, a, part, from, lines, r),
+    }
+}
