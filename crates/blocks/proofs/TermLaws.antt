@@ -50,6 +50,18 @@ packed-four u t i j e =
     (λ (p : ℕ). e ⊕ at t (j * 64 + 0) ⊗ at u p ⊕ at t (j * 64 + 1) ⊗ at u (64 + i) ⊕ at t (j * 64 + 2) ⊗ at u (128 + i) ⊕ at t (j * 64 + 3) ⊗ at u (192 + i))
     (zero-add i)
 
+pub packed-eight : (u t : List Float) (i j : ℕ) (e : Float)
+    → packed 8 u t i j e
+    ≡ e ⊕ at t (j * 64 + 0) ⊗ at u i ⊕ at t (j * 64 + 1) ⊗ at u (64 + i) ⊕ at t (j * 64 + 2) ⊗ at u (128 + i) ⊕ at t (j * 64 + 3) ⊗ at u (192 + i)
+    ⊕ at t (j * 64 + 4) ⊗ at u (256 + i) ⊕ at t (j * 64 + 5) ⊗ at u (320 + i) ⊕ at t (j * 64 + 6) ⊗ at u (384 + i) ⊕ at t (j * 64 + 7) ⊗ at u (448 + i)
+unfolding packed accumulate fold
+packed-eight u t i j e =
+    ap
+    (λ (p : ℕ).
+    e ⊕ at t (j * 64 + 0) ⊗ at u p ⊕ at t (j * 64 + 1) ⊗ at u (64 + i) ⊕ at t (j * 64 + 2) ⊗ at u (128 + i) ⊕ at t (j * 64 + 3) ⊗ at u (192 + i)
+    ⊕ at t (j * 64 + 4) ⊗ at u (256 + i) ⊕ at t (j * 64 + 5) ⊗ at u (320 + i) ⊕ at t (j * 64 + 6) ⊗ at u (384 + i) ⊕ at t (j * 64 + 7) ⊗ at u (448 + i))
+    (zero-add i)
+
 -- n terms more: their part of u and of t
 pub packed-more : (q n : ℕ) (u t : List Float) (i j : ℕ) (e : Float)
     → packed n (take (length u - q * 64) (drop (q * 64) u)) (take (length t - q) (drop q t)) i j (packed q u t i j e) ≡ packed (q + n) u t i j e

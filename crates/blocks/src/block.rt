@@ -19,8 +19,8 @@ fn column_rest(c: &mut [f64], rows: usize, terms: usize, u: &[f64], t: &[f64])
     }
 }
 
-// One column of a product of packed blocks.
-pub fn column(c: &mut [f64], rows: usize, terms: usize, u: &[f64], t: &[f64])
+// One column, four terms at a time.
+fn column_fours(c: &mut [f64], rows: usize, terms: usize, u: &[f64], t: &[f64])
     requires { ⌜ (rows ≤ length (now c)) × (rows ≤ 64) × (terms * 64 + rows ≤ length (now u) + 64) × (terms ≤ length (now t)) ⌝ }
     ensures { λ _. ⌜ now (c .exit) ≡ update (below rows (λ i e. packed terms (now (u .entry)) (now (t .entry)) i 0 e)) (now (c .entry)) ⌝ }
 {
@@ -35,6 +35,24 @@ pub fn column(c: &mut [f64], rows: usize, terms: usize, u: &[f64], t: &[f64])
     }
     let y = q * 64;
     column_rest(c, rows, terms - q, &u[y..], &t[q..]);
+}
+
+// One column of a product of packed blocks.
+pub fn column(c: &mut [f64], rows: usize, terms: usize, u: &[f64], t: &[f64])
+    requires { ⌜ (rows ≤ length (now c)) × (rows ≤ 64) × (terms * 64 + rows ≤ length (now u) + 64) × (terms ≤ length (now t)) ⌝ }
+    ensures { λ _. ⌜ now (c .exit) ≡ update (below rows (λ i e. packed terms (now (u .entry)) (now (t .entry)) i 0 e)) (now (c .entry)) ⌝ }
+{
+    let mut q = 0;
+    while q + 8 <= terms {
+        let x = q * 64;
+        leaves::axpy8(c, rows, &u[x..], &t[q..]);
+        q += 8;
+    }
+    if q == terms {
+        return;
+    }
+    let y = q * 64;
+    column_fours(c, rows, terms - q, &u[y..], &t[q..]);
 }
 
 // Two columns, term by term.

@@ -1,4 +1,4 @@
-// The innermost loops: one term or four, for one column or two neighbouring ones. In u term q, row i stands at q * 64 + i, in t column j, term q at j * 64 + q.
+// The innermost loops: one term, four or eight for one column, one or four for two neighbouring ones. In u term q, row i stands at q * 64 + i, in t column j, term q at j * 64 + q.
 ghost use mathlib.Core.Path.{_≡_};
 ghost use Prim.Native.Nat.{_+_, _≤_};
 ghost use lib.ListN.{length};
@@ -30,6 +30,27 @@ pub fn axpy4(c: &mut [f64], n: usize, u: &[f64], t: &[f64])
     let mut i = 0;
     while i < n {
         c[i] = (((c[i] + t0 * u[i]) + t1 * u[64 + i]) + t2 * u[128 + i]) + t3 * u[192 + i];
+        i += 1;
+    }
+}
+
+// Eight terms of one column, in order.
+pub fn axpy8(c: &mut [f64], n: usize, u: &[f64], t: &[f64])
+    requires { ⌜ (n ≤ length (now c)) × (448 + n ≤ length (now u)) × (8 ≤ length (now t)) ⌝ }
+    ensures { λ _. ⌜ now (c .exit) ≡ update (below n (λ i e. packed 8 (now (u .entry)) (now (t .entry)) i 0 e)) (now (c .entry)) ⌝ }
+{
+    let t0 = t[0];
+    let t1 = t[1];
+    let t2 = t[2];
+    let t3 = t[3];
+    let t4 = t[4];
+    let t5 = t[5];
+    let t6 = t[6];
+    let t7 = t[7];
+    let mut i = 0;
+    while i < n {
+        let x = (((c[i] + t0 * u[i]) + t1 * u[64 + i]) + t2 * u[128 + i]) + t3 * u[192 + i];
+        c[i] = (((x + t4 * u[256 + i]) + t5 * u[320 + i]) + t6 * u[384 + i]) + t7 * u[448 + i];
         i += 1;
     }
 }

@@ -1,4 +1,4 @@
-// One pass over a column, or over a region: cleared, scaled, divided.
+// One pass over a column, cleared, scaled or divided, or over a region, cleared or scaled.
 ghost use mathlib.Core.Path.{_≡_};
 ghost use Prim.Native.Nat.{_+_, _*_, _≤_, _<_};
 ghost use lib.ListN.{length};
@@ -63,19 +63,6 @@ pub fn scale(c: &mut [f64], ld: usize, rows: usize, cols: usize, s: f64)
     while j < cols {
         let from = j * ld;
         scale_column(&mut c[from..], rows, s);
-        j += 1;
-    }
-}
-
-// Each of rows by cols entries divided by d.
-pub fn divide(c: &mut [f64], ld: usize, rows: usize, cols: usize, d: f64)
-    requires { ⌜ (0 < ld) × (rows ≤ ld) × (cols * ld + rows ≤ length (now c) + ld) ⌝ }
-    ensures { λ _. ⌜ now (c .exit) ≡ update (region ld rows cols (λ i j x. x ⊘ d)) (now (c .entry)) ⌝ }
-{
-    let mut j = 0;
-    while j < cols {
-        let from = j * ld;
-        divide_column(&mut c[from..], rows, d);
         j += 1;
     }
 }

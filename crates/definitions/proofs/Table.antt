@@ -1,6 +1,6 @@
 -- Document 01's "Table to be proved", and the examples of its "Numbers handed back", by computation over the definitions.
 -- Assumes nothing.
-use Prim.Native.Nat.{ℕ, _+_}
+use Prim.Native.Nat.{ℕ, _+_, _-_}
 use mathlib.Core.Path.{_≡_, refl}
 use mathlib.Core.Bool.{false}
 use mathlib.Core.List.{List, [], _∷_, _++_, map}
@@ -153,6 +153,14 @@ table = (
   gives-is _ _ tt tt,
   refl,
 )
+
+-- "all terms of op(A)op(B)ᵀ, then all of op(B)op(A)ᵀ": with a row 1, -1 and a row 1, 1 and the old element P the sum is P - 1; if the two products took turns,
+-- panel by panel, it would be P - 2.
+products-in-turn :
+    syr2k (pos 'L') (pos 'N') (pos 1) (pos 2) 1f (num 1 ∷ neg (num 1) ∷ []) (pos 1) (vec (1 ∷ 1 ∷ [])) (pos 1) 1f (vec (P ∷ [])) (pos 1) (pos 64) (pos 64)
+    ≡ gives (vec ((P - 1) ∷ []))
+unfolding opened
+products-in-turn = gives-is _ _ tt tt
 
 -- "Numbers handed back": the examples, in the order of the numbers.
 numbers :

@@ -58,7 +58,7 @@ fn sweep(
 }
 
 // The product by panels of r terms, with the buffers u and t.
-pub fn panels(
+fn panels(
     c: &mut [f64],
     ld: usize,
     rows: usize,

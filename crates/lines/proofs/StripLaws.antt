@@ -1,7 +1,7 @@
 -- A strip of a routine that writes over B: the part from the strip's first column (side L) or row (side R) on, by lines.
 -- Assumes nothing.
-use mathlib.Core.Bool.{true, false}
-use mathlib.Core.Path.{_≡_, sym, ap, ap₂, _∙_}
+use mathlib.Core.Bool.{Bool, true, false, not, _&&_, true≢false}
+use mathlib.Core.Path.{_≡_, refl, sym, ap, ap₂, subst, _∙_}
 use mathlib.Core.List.{List}
 use Prim.Native.Nat.{ℕ, _+_, _*_, _<_, _≤_}
 use native.Mathlib.Nat.{add-mul}
@@ -9,38 +9,119 @@ use native.Mathlib.Omega.{arith}
 use lib.ListN.{drop}
 use lib.Seq.{getD-drop}
 use lib.Ieee.{Float, nan}
+use Rattle.arrays.specs.Choice.{if_then_else_}
 use Rattle.arrays.specs.Update.{update, region}
 use Rattle.floats.specs.Array.{at}
+use Rattle.definitions.specs.Number.{isZero}
 use Rattle.definitions.specs.Storage.{stored, needed}
-use Rattle.definitions.specs.Call.{_by_, storedAs, bySide, inPlace, ldOutput, inTriangle, cutsRows}
-use Rattle.definitions.specs.Element.{value, arrayB, StripOf}
+use Rattle.definitions.specs.Call.{_by_, storedAs, bySide, hasK, inPlace, order, shapeA, shapeB, ldOutput, inTriangle, cutsRows, extent}
+use Rattle.definitions.specs.Element.{solvesUp, value, arrayB, StripOf}
 use Rattle.definitions.specs.declared.Routine.{Routine}
+use Rattle.definitions.specs.declared.Routine.the-variants.{Gemm, Symm, Syrk, Syr2k, Trmm, Trsm}
 use Rattle.definitions.specs.declared.Side.{Side}
 use Rattle.definitions.specs.declared.Side.the-variants.{Left, Right}
 use Rattle.definitions.specs.declared.Call.{Call}
+use Rattle.definitions.specs.declared.Triangle.{Triangle}
+use Rattle.definitions.specs.declared.Triangle.the-variants.{Lower, Upper}
+use Rattle.definitions.specs.declared.Shape.{Shape}
 use Rattle.definitions.specs.declared.Transpose.{Transpose}
 use Rattle.definitions.specs.declared.Transpose.the-variants.{No, Yes}
-use Rattle.definitions.proofs.Fits as Fits
-use Rattle.definitions.proofs.Fits.{room-sum}
+use Rattle.definitions.proofs.Fits as Arrays
+use Rattle.definitions.proofs.Fits.{Fits, room-sum}
 use Rattle.definitions.proofs.Parts.{strip-of-box, strip-of-rows}
 use Rattle.packing.specs.Factor.{indexOf}
 use Rattle.forms.specs.Forms.{opForm}
-use Rattle.forms.proofs.Rooms.{op-inside, part-room}
+use Rattle.forms.proofs.Rooms.{op-inside, part-room, some-factor}
 use Rattle.lines.specs.Lines.{cell, grid, Room}
+
+-- what goes up on one side goes down on the other
+pub other-side : (t : Triangle) → solvesUp Left t ≡ not (solvesUp Right t)
+unfolding solvesUp
+other-side Lower = refl
+other-side Upper = refl
 
 -- ---- what is read and written is within the arrays
 
 -- an entry of op(A), of order n
-pub order-inside : (t : Transpose) (ld n len : ℕ) → Fits.Room len ld (n by n) → (i j : ℕ) → i < n → j < n → indexOf (opForm t) ld i j < len
+order-inside : (t : Transpose) (ld n len : ℕ) → Arrays.Room len ld (n by n) → (i j : ℕ) → i < n → j < n → indexOf (opForm t) ld i j < len
 unfolding storedAs
 order-inside No ld n len h i j hi hj = op-inside No ld n n len h i j hi hj
 order-inside Yes ld n len h i j hi hj = op-inside Yes ld n n len h i j hi hj
 
-pub left-room : (ld m n from lines len : ℕ) → needed ld m n ≤ from * ld + len → 0 < m → 0 < lines → from + lines ≤ n → m ≤ ld → Room true ld m lines len
+left-room : (ld m n from lines len : ℕ) → needed ld m n ≤ from * ld + len → 0 < m → 0 < lines → from + lines ≤ n → m ≤ ld → Room true ld m lines len
 left-room ld m n from lines len h hm hl within fit = (fit, part-room ld m n from lines len h hm hl within)
 
-pub right-room : (ld m n from lines len : ℕ) → needed ld m n ≤ from + len → 0 < m → 0 < n → from + lines ≤ m → m ≤ ld → Room false ld n lines len
+right-room : (ld m n from lines len : ℕ) → needed ld m n ≤ from + len → 0 < m → 0 < n → from + lines ≤ m → m ≤ ld → Room false ld n lines len
 right-room ld m n from lines len h hm hn within fit = (omega arith, omega (arith, room-sum ld m n (from + len) h hm hn))
+
+-- what a call that fits gives its lines: `lines` of the lines across, from the one of number `from` on, with m elements in each
+pub record LinesFit (c : Call) (left : Bool) (from m lines across la len : ℕ) : Type 0 where
+  pub some : 0 < m
+  pub within : from + lines ≤ across
+  pub some-rows : 0 < c .m
+  pub fit : c .m ≤ c .ldb
+  pub room : Room left (c .ldb) m lines len
+  pub reads : isZero (c .alpha) ≡ false → (i j : ℕ) → i < m → j < m → indexOf (opForm (c .transa)) (c .lda) i j < la
+
+shapes : (f : Routine) (c : Call) → inPlace f ≡ true → (hasK f ≡ false) × (shapeA f c ≡ order c by order c) × (shapeB f c ≡ c .m by c .n)
+unfolding inPlace hasK shapeA shapeB
+shapes Gemm c h = absurd (true≢false (sym h))
+shapes Symm c h = absurd (true≢false (sym h))
+shapes Syrk c h = absurd (true≢false (sym h))
+shapes Syr2k c h = absurd (true≢false (sym h))
+shapes Trmm c h = (refl, refl, refl)
+shapes Trsm c h = (refl, refl, refl)
+
+choice : (s : Side) (m n : ℕ) → (if bySide s false true then m else n) ≡ bySide s n m
+unfolding bySide
+choice Left m n = refl
+choice Right m n = refl
+
+module _ (f : Routine) (over : inPlace f ≡ true) (c : Call) (la len lenc from lines : ℕ) (k : Fits f c la (bySide (c .side) (from * c .ldb) from + len) lenc) (some : 0 < lines) (within : from + lines ≤ extent c) where
+  across-is : (s : Side) → c .side ≡ s → extent c ≡ bySide s (c .n) (c .m)
+  unfolding extent cutsRows
+  across-is s e = ap₂ (λ (b : Bool) (s : Side). if b && bySide s false true then c .m else c .n) (ap inPlace (k .routine-is) ∙ over) e ∙ choice s (c .m) (c .n)
+
+  rows-fit : c .m ≤ c .ldb
+  rows-fit = subst (λ (p : Shape). p .rows ≤ c .ldb) (shapes f c over .2) (k .ld-b)
+
+  room-b : (s : Side) → c .side ≡ s → needed (c .ldb) (c .m) (c .n) ≤ bySide s (from * c .ldb) from + len
+  room-b s e =
+      subst (λ (s : Side). needed (c .ldb) (c .m) (c .n) ≤ bySide s (from * c .ldb) from + len) e
+      (subst (Arrays.Room (bySide (c .side) (from * c .ldb) from + len) (c .ldb)) (shapes f c over .2) (k .room-written-b over))
+
+  reads-of : (s : Side) → c .side ≡ s → isZero (c .alpha) ≡ false → (i j : ℕ) → i < bySide s (c .m) (c .n) → j < bySide s (c .m) (c .n) → indexOf (opForm (c .transa)) (c .lda) i j < la
+  unfolding order
+  reads-of s e z =
+      order-inside (c .transa) (c .lda) (bySide s (c .m) (c .n)) la
+      (subst (λ (s : Side). Arrays.Room la (c .lda) (bySide s (c .m) (c .n) by bySide s (c .m) (c .n))) e
+      (subst (Arrays.Room la (c .lda)) (shapes f c over .1) (k .room-a (some-factor c (ap hasK (k .routine-is) ∙ shapes f c over .0) z))))
+
+  pub left-fits : c .side ≡ Left → LinesFit c true from (c .m) lines (c .n) la len
+  unfolding bySide
+  left-fits e =
+      let w : from + lines ≤ c .n = omega (arith, across-is Left e) in
+      record {
+        some = k .some-rows;
+        within = w;
+        some-rows = k .some-rows;
+        fit = rows-fit;
+        room = left-room (c .ldb) (c .m) (c .n) from lines len (room-b Left e) (k .some-rows) some w rows-fit;
+        reads = reads-of Left e;
+      }
+
+  pub right-fits : c .side ≡ Right → LinesFit c false from (c .n) lines (c .m) la len
+  unfolding bySide
+  right-fits e =
+      let w : from + lines ≤ c .m = omega (arith, across-is Right e) in
+      record {
+        some = k .some-columns;
+        within = w;
+        some-rows = k .some-rows;
+        fit = rows-fit;
+        room = right-room (c .ldb) (c .m) (c .n) from lines len (room-b Right e) (k .some-rows) (k .some-columns) w rows-fit;
+        reads = reads-of Right e;
+      }
 
 -- ---- an element of a line of the part, as an entry of B
 

@@ -28,7 +28,7 @@ use Rattle.lines.specs.Lines.{cell, grid, within, lineTerm}
 use Rattle.lines.proofs.GridLaws.{grid-lent}
 
 -- the entries of op(A) from (i₀, j₀) on
-pub index-from : (t : Transpose) (ld i₀ j₀ i j : ℕ) → indexOf (opForm t) ld i₀ j₀ + indexOf (opForm t) ld i j ≡ indexOf (opForm t) ld (i₀ + i) (j₀ + j)
+index-from : (t : Transpose) (ld i₀ j₀ i j : ℕ) → indexOf (opForm t) ld i₀ j₀ + indexOf (opForm t) ld i j ≡ indexOf (opForm t) ld (i₀ + i) (j₀ + j)
 unfolding indexOf
 index-from No ld i₀ j₀ i j = rw (add-mul j₀ j ld) (omega arith)
 index-from Yes ld i₀ j₀ i j = rw (add-mul i₀ i ld) (omega arith)
@@ -42,7 +42,7 @@ module _ (t : Transpose) (a : List Float) (ld i₀ j₀ from : ℕ) {f : Form} (
   index-is i j =
       ap₂ (λ (x : ℕ) (g : Form). x + indexOf g ld i j) (e ∙ ap (λ (g : Form). indexOf g ld i₀ j₀) ef) ef ∙ index-from t ld i₀ j₀ i j
 
-  entry-from : (i j : ℕ) → entryOf f (take (length a - from) (drop from a)) ld i j ≡ entryOf (opForm t) a ld (i₀ + i) (j₀ + j)
+  pub entry-from : (i j : ℕ) → entryOf f (take (length a - from) (drop from a)) ld i j ≡ entryOf (opForm t) a ld (i₀ + i) (j₀ + j)
   unfolding entryOf
   entry-from i j = tail-at from a (indexOf f ld i j) nan ∙ ap (at a) (index-is i j)
 

@@ -1,7 +1,7 @@
 // B by lines, what TRMM and TRSM share: a line is a column of B for side L and a row for side R.
 ghost use mathlib.Core.Path.{_≡_};
 ghost use mathlib.Core.Bool.{true, false};
-ghost use Prim.Native.Nat.{ℕ, _+_, _*_, _≤_, _<_};
+ghost use Prim.Native.Nat.{ℕ, _+_, _-_, _*_, _≤_, _<_};
 ghost use lib.ListN.{length};
 ghost use Rattle.arrays.specs.Choice.{if_then_else_};
 ghost use Rattle.arrays.specs.Update.{update};
@@ -10,16 +10,30 @@ ghost use Rattle.floats.specs.Array.{at};
 ghost use Rattle.packing.specs.Factor.{indexOf, entryOf};
 ghost use Rattle.kernel.specs.Product.{turn};
 ghost use Rattle.forms.specs.Forms.{opForm};
-ghost use Rattle.lines.specs.Lines.{cell, grid, within, lineTerm, Room};
+ghost use Rattle.lines.specs.Lines.{cell, grid, within, lineForm, lineTerm, Room};
+
+pub mod triangle;
+
 use definitions::Transpose;
-use kernel::panels;
 use packing::Form;
 use packing::factor;
 use packing::pack;
 
-// The elements from x0 on, n of them, of each line, copied to x.
+// How an array that holds its lines as one side does is read as the lines of the other side, or of the same.
+fn line_form(left: bool, side: bool) -> Form
+    ensures { λ r. ⌜ r ≡ lineForm left side ⌝ }
+{
+    if left {
+        if side { Form::Plain } else { Form::Transposed }
+    } else {
+        if side { Form::Transposed } else { Form::Plain }
+    }
+}
+
+// The elements from x0 on, n of them, of each line, copied to x, which holds its lines as `side` says.
 pub fn take(
     left: bool,
+    side: bool,
     x: &mut [f64],
     b: &[f64],
     ld: usize,
@@ -30,16 +44,42 @@ pub fn take(
 )
     requires { ⌜ (0 < n) × (n ≤ 64) × (0 < lines) × (lines ≤ 64) × (x0 + n ≤ m) × (4096 ≤ length (now x)) ⌝ }
     requires { ⌜ Room left ld m lines (length (now b)) ⌝ }
-    ensures { λ _. ⌜ now (x .exit) ≡ update (grid left 64 n lines (λ q l _. at (now (b .entry)) (cell left ld (x0 + q) l))) (now (x .entry)) ⌝ }
+    ensures { λ _. ⌜ now (x .exit) ≡ update (grid side 64 n lines (λ q l _. at (now (b .entry)) (cell left ld (x0 + q) l))) (now (x .entry)) ⌝ }
 {
-    if left {
-        pack::pack(x, n, lines, Form::Plain, b, ld, x0, false, 0, false);
+    let f = line_form(left, side);
+    if side {
+        pack::pack(x, n, lines, f, b, ld, x0, false, 0, false);
         return;
     }
-    pack::pack(x, lines, n, Form::Plain, b, ld, 0, false, x0, false);
+    pack::pack(x, lines, n, f, b, ld, 0, false, x0, false);
 }
 
-// Side L: the terms of the elements from x0 on, n of them, whose values are in x, in the sums of the elements from y on, h of them. u and v are buffers.
+// The elements from x0 on, n of them, of each line become those of x, which holds its lines as `side` says.
+pub fn put(
+    left: bool,
+    side: bool,
+    b: &mut [f64],
+    ld: usize,
+    m: usize,
+    lines: usize,
+    x0: usize,
+    n: usize,
+    x: &[f64],
+)
+    requires { ⌜ (0 < n) × (n ≤ 64) × (0 < lines) × (lines ≤ 64) × (x0 + n ≤ m) × (4096 ≤ length (now x)) ⌝ }
+    requires { ⌜ Room left ld m lines (length (now b)) ⌝ }
+    ensures { λ _. ⌜ now (b .exit) ≡ update (grid left ld m lines (λ q l e. if within x0 n q then at (now (x .entry)) (cell side 64 (q - x0) l) else e)) (now (b .entry)) ⌝ }
+{
+    let f = line_form(side, left);
+    if left {
+        pack::lines(&mut b[x0..], ld, n, lines, f, x, 64, 0, false, 0, false);
+        return;
+    }
+    let to = x0 * ld;
+    pack::lines(&mut b[to..], ld, lines, n, f, x, 64, 0, false, 0, false);
+}
+
+// Side L: the terms of the elements from x0 on, n of them, whose values are in x, in the sums of the elements from y on, h of them.
 fn add_left(
     down: bool,
     b: &mut [f64],
@@ -56,16 +96,14 @@ fn add_left(
     h: usize,
     x: &[f64],
     r: usize,
-    u: &mut [f64],
-    v: &mut [f64],
 )
-    requires { ⌜ (0 < n) × (n ≤ 64) × (0 < h) × (0 < lines) × (lines ≤ 64) × (y + h ≤ m) × (0 < r) × (r ≤ 64) × (4096 ≤ length (now x)) × (4096 ≤ length (now u)) × (4096 ≤ length (now v)) ⌝ }
+    requires { ⌜ (0 < n) × (n ≤ 64) × (0 < h) × (0 < lines) × (lines ≤ 64) × (y + h ≤ m) × (0 < r) × (r ≤ 64) × (4096 ≤ length (now x)) ⌝ }
     requires { ⌜ (m ≤ ld) × (lines * ld + m ≤ length (now b) + ld) × ((q p : ℕ) → q < h → p < n → indexOf (opForm t) lda (y + q) (x0 + p) < length (now a)) ⌝ }
     ensures { λ _. ⌜ now (b .exit) ≡ update (grid true ld m lines (λ q l e. if within y h q then fold (λ e i. lineTerm true alpha (entryOf (opForm t) (now (a .entry)) lda) q e (x0 + turn down n i) (at (now (x .entry)) (cell true 64 (turn down n i) l))) n e else e)) (now (b .entry)) ⌝ }
 {
     let f = forms::op_form(t);
     let from = factor::place(f, lda, y, x0);
-    panels::panels(
+    kernel::multiply(
         &mut b[y..],
         ld,
         h,
@@ -82,8 +120,6 @@ fn add_left(
         alpha,
         down,
         r,
-        u,
-        v,
     );
 }
 
@@ -104,17 +140,15 @@ fn add_right(
     h: usize,
     x: &[f64],
     r: usize,
-    u: &mut [f64],
-    v: &mut [f64],
 )
-    requires { ⌜ (0 < n) × (n ≤ 64) × (0 < h) × (h ≤ 64) × (0 < lines) × (lines ≤ 64) × (y + h ≤ m) × (0 < r) × (r ≤ 64) × (4096 ≤ length (now x)) × (4096 ≤ length (now u)) × (4096 ≤ length (now v)) ⌝ }
+    requires { ⌜ (0 < n) × (n ≤ 64) × (0 < h) × (h ≤ 64) × (0 < lines) × (lines ≤ 64) × (y + h ≤ m) × (0 < r) × (r ≤ 64) × (4096 ≤ length (now x)) ⌝ }
     requires { ⌜ (lines ≤ ld) × (m * ld + lines ≤ length (now b) + ld) × ((q p : ℕ) → q < h → p < n → indexOf (opForm t) lda (x0 + p) (y + q) < length (now a)) ⌝ }
     ensures { λ _. ⌜ now (b .exit) ≡ update (grid false ld m lines (λ q l e. if within y h q then fold (λ e i. lineTerm false alpha (entryOf (opForm t) (now (a .entry)) lda) q e (x0 + turn down n i) (at (now (x .entry)) (cell false 64 (turn down n i) l))) n e else e)) (now (b .entry)) ⌝ }
 {
     let f = forms::op_form(t);
     let from = factor::place(f, lda, x0, y);
     let to = y * ld;
-    panels::panels(
+    kernel::multiply(
         &mut b[to..],
         ld,
         lines,
@@ -131,81 +165,10 @@ fn add_right(
         alpha,
         down,
         r,
-        u,
-        v,
     );
 }
 
-// The terms of the elements from x0 on, n of them, whose values are in x, in the sums of the elements from y on, h of them, with the buffers u and v.
-pub fn add_terms_with(
-    left: bool,
-    down: bool,
-    b: &mut [f64],
-    ld: usize,
-    m: usize,
-    lines: usize,
-    alpha: f64,
-    t: Transpose,
-    a: &[f64],
-    lda: usize,
-    x0: usize,
-    n: usize,
-    y: usize,
-    h: usize,
-    x: &[f64],
-    r: usize,
-    u: &mut [f64],
-    v: &mut [f64],
-)
-    requires { ⌜ (0 < n) × (n ≤ 64) × (0 < h) × (left ≡ false → h ≤ 64) × (0 < lines) × (lines ≤ 64) × (y + h ≤ m) × (0 < r) × (r ≤ 64) × (4096 ≤ length (now x)) × (4096 ≤ length (now u)) × (4096 ≤ length (now v)) ⌝ }
-    requires { ⌜ Room left ld m lines (length (now b)) ⌝ }
-    requires { ⌜ ((q p : ℕ) → q < h → p < n → (if left then indexOf (opForm t) lda (y + q) (x0 + p) else indexOf (opForm t) lda (x0 + p) (y + q)) < length (now a)) ⌝ }
-    ensures { λ _. ⌜ now (b .exit) ≡ update (grid left ld m lines (λ q l e. if within y h q then fold (λ e i. lineTerm left alpha (entryOf (opForm t) (now (a .entry)) lda) q e (x0 + turn down n i) (at (now (x .entry)) (cell left 64 (turn down n i) l))) n e else e)) (now (b .entry)) ⌝ }
-{
-    if left {
-        add_left(
-            down,
-            b,
-            ld,
-            m,
-            lines,
-            alpha,
-            t,
-            a,
-            lda,
-            x0,
-            n,
-            y,
-            h,
-            x,
-            r,
-            u,
-            v,
-        );
-        return;
-    }
-    add_right(
-        down,
-        b,
-        ld,
-        m,
-        lines,
-        alpha,
-        t,
-        a,
-        lda,
-        x0,
-        n,
-        y,
-        h,
-        x,
-        r,
-        u,
-        v,
-    );
-}
-
-// The same with buffers of its own.
+// The terms of the elements from x0 on, n of them, whose values are in x, in the sums of the elements from y on, h of them.
 pub fn add_terms(
     left: bool,
     down: bool,
@@ -229,26 +192,9 @@ pub fn add_terms(
     requires { ⌜ ((q p : ℕ) → q < h → p < n → (if left then indexOf (opForm t) lda (y + q) (x0 + p) else indexOf (opForm t) lda (x0 + p) (y + q)) < length (now a)) ⌝ }
     ensures { λ _. ⌜ now (b .exit) ≡ update (grid left ld m lines (λ q l e. if within y h q then fold (λ e i. lineTerm left alpha (entryOf (opForm t) (now (a .entry)) lda) q e (x0 + turn down n i) (at (now (x .entry)) (cell left 64 (turn down n i) l))) n e else e)) (now (b .entry)) ⌝ }
 {
-    let mut u = [0.0f64; 4096];
-    let mut v = [0.0f64; 4096];
-    add_terms_with(
-        left,
-        down,
-        b,
-        ld,
-        m,
-        lines,
-        alpha,
-        t,
-        a,
-        lda,
-        x0,
-        n,
-        y,
-        h,
-        x,
-        r,
-        &mut u,
-        &mut v,
-    );
+    if left {
+        add_left(down, b, ld, m, lines, alpha, t, a, lda, x0, n, y, h, x, r);
+        return;
+    }
+    add_right(down, b, ld, m, lines, alpha, t, a, lda, x0, n, y, h, x, r);
 }

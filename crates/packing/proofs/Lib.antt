@@ -1,2 +1,3 @@
 pub mod FactorLaws
 pub mod PackLaws
+pub mod MirrorLaws

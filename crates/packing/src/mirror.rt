@@ -3,8 +3,10 @@ ghost use mathlib.Core.Path.{_≡_};
 ghost use Prim.Native.Nat.{ℕ, _+_, _*_, _≤_, _<_};
 ghost use lib.ListN.{length};
 ghost use Rattle.arrays.specs.Update.{update, below, region};
+ghost use Rattle.floats.specs.Array.{at};
 ghost use Rattle.packing.specs.Factor.{isMirrored, isLower, mirroredForm, indexOf, entryOf};
 use super::Form;
+use super::pack;
 
 // The form mirrors one triangle.
 pub fn is_mirrored(form: Form) -> bool
@@ -30,29 +32,70 @@ pub fn is_lower(form: Form) -> bool
     }
 }
 
-// The place of entry (i, j).
-fn place(lower: bool, ld: usize, i: usize, j: usize) -> usize
-    requires { ⌜ indexOf (mirroredForm lower) ld i j < 18446744073709551616 ⌝ }
-    ensures { λ r. ⌜ r ≡ indexOf (mirroredForm lower) ld i j ⌝ }
+// How many of the n rows from i on come before row j.
+fn rows_before(i: usize, n: usize, j: usize) -> usize
+    requires { ⌜ i + n < 18446744073709551616 ⌝ }
+    ensures { λ r. ⌜ (r ≤ n) × ((y : ℕ) → y < r → i + y < j) × ((y : ℕ) → r ≤ y → y < n → j ≤ i + y) ⌝ }
 {
-    if lower {
-        if j <= i { j * ld + i } else { i * ld + j }
-    } else {
-        if i <= j { j * ld + i } else { i * ld + j }
+    if j <= i {
+        return 0;
     }
+    if i + n <= j {
+        return n;
+    }
+    j - i
 }
 
-// n entries of column j, from row i on.
-fn line(dest: &mut [f64], n: usize, lower: bool, a: &[f64], ld: usize, i: usize, j: usize)
-    requires { ⌜ (n ≤ length (now dest)) × (i + n < 18446744073709551616) × ((y : ℕ) → y < n → indexOf (mirroredForm lower) ld (i + y) j < length (now a)) ⌝ }
-    ensures { λ _. ⌜ now (dest .exit) ≡ update (below n (λ y x. entryOf (mirroredForm lower) (now (a .entry)) ld (i + y) j)) (now (dest .entry)) ⌝ }
+// The first elements of n columns.
+fn gather(dest: &mut [f64], n: usize, a: &[f64], ld: usize)
+    requires { ⌜ (n ≤ length (now dest)) × ((y : ℕ) → y < n → y * ld < length (now a)) ⌝ }
+    ensures { λ _. ⌜ now (dest .exit) ≡ update (below n (λ y x. at (now (a .entry)) (y * ld))) (now (dest .entry)) ⌝ }
 {
     let mut y = 0;
     while y < n {
-        let p = place(lower, ld, i + y, j);
-        dest[y] = a[p];
+        dest[y] = a[y * ld];
         y += 1;
     }
+}
+
+// n entries of column j, from row i on, where they are stored.
+fn stored(dest: &mut [f64], n: usize, a: &[f64], ld: usize, i: usize, j: usize)
+    requires { ⌜ (n ≤ length (now dest)) × ((y : ℕ) → y < n → j * ld + (i + y) < length (now a)) ⌝ }
+    ensures { λ _. ⌜ now (dest .exit) ≡ update (below n (λ y x. at (now (a .entry)) (j * ld + (i + y)))) (now (dest .entry)) ⌝ }
+{
+    if n == 0 {
+        return;
+    }
+    let from = j * ld + i;
+    pack::copy(dest, n, &a[from..]);
+}
+
+// The same where they are mirrored: row j, from column i on.
+fn mirrored(dest: &mut [f64], n: usize, a: &[f64], ld: usize, i: usize, j: usize)
+    requires { ⌜ (n ≤ length (now dest)) × ((y : ℕ) → y < n → (i + y) * ld + j < length (now a)) ⌝ }
+    ensures { λ _. ⌜ now (dest .exit) ≡ update (below n (λ y x. at (now (a .entry)) ((i + y) * ld + j))) (now (dest .entry)) ⌝ }
+{
+    if n == 0 {
+        return;
+    }
+    let from = i * ld + j;
+    gather(dest, n, &a[from..], ld);
+}
+
+// n entries of column j, from row i on: those before the diagonal, then the others.
+fn line(dest: &mut [f64], n: usize, lower: bool, a: &[f64], ld: usize, i: usize, j: usize)
+    requires { ⌜ (n ≤ length (now dest)) × (i + n < 18446744073709551616) × (j < 18446744073709551615) × ((y : ℕ) → y < n → indexOf (mirroredForm lower) ld (i + y) j < length (now a)) ⌝ }
+    ensures { λ _. ⌜ now (dest .exit) ≡ update (below n (λ y x. entryOf (mirroredForm lower) (now (a .entry)) ld (i + y) j)) (now (dest .entry)) ⌝ }
+{
+    if lower {
+        let k = rows_before(i, n, j);
+        mirrored(dest, k, a, ld, i, j);
+        stored(&mut dest[k..], n - k, a, ld, i + k, j);
+        return;
+    }
+    let h = rows_before(i, n, j + 1);
+    stored(dest, h, a, ld, i, j);
+    mirrored(&mut dest[h..], n - h, a, ld, i + h, j);
 }
 
 // ny by nx entries from (i, j) on, line x and element y of the line at x * stride + y.

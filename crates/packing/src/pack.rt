@@ -1,6 +1,6 @@
 // Packing: a block of a factor into a buffer, line x and element y of the line at x * 64 + y.
 ghost use mathlib.Core.Path.{_≡_};
-ghost use Prim.Native.Nat.{ℕ, _+_, _*_, _≤_, _<_};
+ghost use Prim.Native.Nat.{ℕ, _+_, _-_, _*_, _≤_, _<_};
 ghost use lib.ListN.{length};
 ghost use Rattle.arrays.specs.Update.{update, below, region};
 ghost use Rattle.floats.specs.Array.{at};
@@ -34,7 +34,7 @@ fn line(
 }
 
 // The elements below n, one after the other.
-fn copy(dest: &mut [f64], n: usize, a: &[f64])
+pub fn copy(dest: &mut [f64], n: usize, a: &[f64])
     requires { ⌜ (n ≤ length (now dest)) × (n ≤ length (now a)) ⌝ }
     ensures { λ _. ⌜ now (dest .exit) ≡ update (below n (λ y x. at (now (a .entry)) y)) (now (dest .entry)) ⌝ }
 {
@@ -45,8 +45,20 @@ fn copy(dest: &mut [f64], n: usize, a: &[f64])
     }
 }
 
+// The elements below n, the last one first.
+pub fn reversed(dest: &mut [f64], n: usize, a: &[f64])
+    requires { ⌜ (n ≤ length (now dest)) × (n ≤ length (now a)) ⌝ }
+    ensures { λ _. ⌜ now (dest .exit) ≡ update (below n (λ y x. at (now (a .entry)) (n - 1 - y))) (now (dest .entry)) ⌝ }
+{
+    let mut y = 0;
+    while y < n {
+        dest[y] = a[n - 1 - y];
+        y += 1;
+    }
+}
+
 // The elements below n, each to a line of its own.
-fn spread(dest: &mut [f64], n: usize, a: &[f64])
+pub fn spread(dest: &mut [f64], n: usize, a: &[f64])
     requires { ⌜ (n * 64 < length (now dest) + 64) × (n ≤ length (now a)) ⌝ }
     ensures { λ _. ⌜ now (dest .exit) ≡ update (region 64 1 n (λ y x _. at (now (a .entry)) x)) (now (dest .entry)) ⌝ }
 {
@@ -104,9 +116,10 @@ fn transposed(
     }
 }
 
-// A block entry by entry, in any form.
-fn lines(
+// A block entry by entry, in any form: line x and element y of the line at x * stride + y.
+pub fn lines(
     dest: &mut [f64],
+    stride: usize,
     ny: usize,
     nx: usize,
     form: Form,
@@ -117,12 +130,12 @@ fn lines(
     j: usize,
     across: bool,
 )
-    requires { ⌜ (ny ≤ 64) × (nx * 64 ≤ length (now dest)) × Indices down i ny × Indices across j nx × ((y x : ℕ) → y < ny → x < nx → indexOf form ld (along down i y) (along across j x) < length (now a)) ⌝ }
-    ensures { λ _. ⌜ now (dest .exit) ≡ update (region 64 ny nx (λ y x _. entryOf form (now (a .entry)) ld (along down i y) (along across j x))) (now (dest .entry)) ⌝ }
+    requires { ⌜ (0 < stride) × (ny ≤ stride) × (nx * stride + ny ≤ length (now dest) + stride) × Indices down i ny × Indices across j nx × ((y x : ℕ) → y < ny → x < nx → indexOf form ld (along down i y) (along across j x) < length (now a)) ⌝ }
+    ensures { λ _. ⌜ now (dest .exit) ≡ update (region stride ny nx (λ y x _. entryOf form (now (a .entry)) ld (along down i y) (along across j x))) (now (dest .entry)) ⌝ }
 {
     let mut x = 0;
     while x < nx {
-        let to = x * 64;
+        let to = x * stride;
         let column = factor::step(across, j, x);
         line(&mut dest[to..], ny, form, a, ld, i, down, column);
         x += 1;
@@ -204,6 +217,6 @@ pub fn pack(
             let lower = mirror::is_lower(form);
             mirror::block(dest, 64, ny, nx, lower, a, ld, i, j);
         }
-        Way::Entries => lines(dest, ny, nx, form, a, ld, i, down, j, across),
+        Way::Entries => lines(dest, 64, ny, nx, form, a, ld, i, down, j, across),
     }
 }

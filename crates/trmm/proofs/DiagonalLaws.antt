@@ -1,35 +1,39 @@
--- The diagonal of op(A): its entries, and the term that it gives to an element of each line.
+-- The diagonal block: the entries of op(A)'s diagonal, the coefficients, and the terms from factors that are held.
 -- Assumes nothing.
-use mathlib.Core.Bool.{Bool, true, false, true≢false}
-use mathlib.Core.Path.{_≡_, refl, sym, ap, ap₂, _∙_}
+use mathlib.Core.Bool.{Bool, true, false}
+use mathlib.Core.Path.{_≡_, refl, sym, ap, ap₂, subst, _∙_}
+use mathlib.Core.Logic.{⊎-elim}
 use mathlib.Core.List.{List}
-use Prim.Native.Nat.{ℕ, _+_, _-_, _*_, _<_}
-use native.Mathlib.Nat.{add-zero}
+use Prim.Native.Nat.{ℕ, _+_, _*_, _<_, _≤_}
 use native.Mathlib.Omega.{arith}
-use lib.ListN.{length, take, drop, set}
+use lib.ListN.{length, set, length-set}
+use lib.Seq.{getD-set-same, getD-set-other}
 use lib.Ieee.{Float, nan}
-use borrow.Author.Tests.{eq-eqb}
-use borrow.Rule.Slice.PartMut.{putMid}
+use borrow.Author.Tests.{le-leb, lt-leb, leb-true, eq-eqb}
 use Rattle.arrays.specs.Choice.{if_then_else_}
-use Rattle.arrays.specs.Update.{EntryMap, update, below, region}
-use Rattle.arrays.proofs.EntryLaws.{entry-kept}
-use Rattle.arrays.proofs.RegionLaws.{boxed-column-out, one-column, row-more}
+use Rattle.arrays.specs.Update.{update, region}
+use Rattle.arrays.specs.Fold.{fold, among}
+use Rattle.arrays.proofs.Tests.{if-both}
+use Rattle.arrays.proofs.FoldLaws.{fold-same}
+use Rattle.arrays.proofs.UpdateLaws.{lt-or-ge, same-or-not, length-update}
 use Rattle.floats.specs.Array.{at}
 use Rattle.floats.specs.Operations.{_⊕_, _⊗_, 1f}
-use Rattle.blocks.specs.Terms.{packed}
-use Rattle.blocks.proofs.TermLaws.{packed-one}
+use Rattle.floats.proofs.Laws.{⊗-comm}
 use Rattle.definitions.specs.Storage.{withDiagonal}
 use Rattle.definitions.specs.declared.Diagonal.{Diagonal}
 use Rattle.definitions.specs.declared.Diagonal.the-variants.{Unit, Nonunit}
 use Rattle.definitions.specs.declared.Transpose.{Transpose}
 use Rattle.definitions.specs.declared.Transpose.the-variants.{No, Yes}
 use Rattle.packing.specs.Factor.{Matrix, indexOf, entryOf}
-use Rattle.packing.specs.declared.Form.{Form}
+use Rattle.kernel.specs.Product.{turn}
 use Rattle.forms.specs.Forms.{opForm}
-use Rattle.lines.specs.Lines.{cell, grid, within, lineTerm, Room}
-use Rattle.lines.proofs.GridLaws.{some-ld, cell-inside, grid-same-at, grid-lent}
+use Rattle.lines.specs.Lines.{cell, grid, lineTerm, coefficient, Beside}
+use Rattle.lines.proofs.GridLaws.{grid-at, grid-same}
+use Rattle.trmm.specs.Sum.{has, heldTerms, termFrom, Pivots}
+use Rattle.trmm.proofs.ChosenLaws.{buffer-room}
+use Rattle.trmm.proofs.SumLaws.{beside}
 
--- ---- the entries
+-- ---- the entries of the diagonal
 
 pub unit-entry : (diag : Diagonal) (M : Matrix) (p : ℕ) → diag ≡ Unit → 1f ≡ withDiagonal 1f diag M p p
 unfolding withDiagonal
@@ -45,56 +49,127 @@ pub stored-entry : (diag : Diagonal) (t : Transpose) (a : List Float) (lda p : �
 unfolding withDiagonal entryOf
 stored-entry diag t a lda p e = rw e (ap (at a) (sym (diagonal-index t lda p)))
 
--- an entry of op(A) is in the array, on either side
-pub either-inside : (left : Bool) (f : Form) (lda m len : ℕ) → ((i j : ℕ) → i < m → j < m → indexOf f lda i j < len) → (i j : ℕ) → i < m → j < m
-    → (if left then indexOf f lda i j else indexOf f lda j i) < len
-either-inside true f lda m len h i j hi hj = h i j hi hj
-either-inside false f lda m len h i j hi hj = h j i hj hi
+-- ---- the coefficients
+
+has-beside : (after : Bool) (i p : ℕ) → has after i p ≡ true → (i ≡ p → ⊥) → Beside after i p
+unfolding has
+has-beside true i p h z = let k : i ≤ p = leb-true i p h in ⊎-elim (λ (u : i < p). u) (λ u. absurd (z (omega arith))) (lt-or-ge i p)
+has-beside false i p h z = let k : p ≤ i = leb-true p i h in ⊎-elim (λ (u : p < i). u) (λ u. absurd (z (omega arith))) (lt-or-ge p i)
+
+coefficient-beside : (left : Bool) (diag : Diagonal) (M : Matrix) (q p : ℕ) → (q ≡ p → ⊥) → coefficient left M q p ≡ coefficient left (withDiagonal 1f diag M) q p
+unfolding coefficient
+coefficient-beside true diag M q p h = sym (beside diag M q p h)
+coefficient-beside false diag M q p h = sym (beside diag M p q (λ z. h (sym z)))
+
+coefficient-own : (left : Bool) (T : Matrix) (p : ℕ) → T p p ≡ coefficient left T p p
+unfolding coefficient
+coefficient-own true T p = refl
+coefficient-own false T p = refl
+
+module _ (diag : Diagonal) (a : List Float) (lda p₀ : ℕ) where
+  -- the entries of the diagonal, one by one
+  pub no-pivots : (v : List Float) → Pivots diag a lda p₀ 0 v v
+  no-pivots v = record { same-length = refl; own = λ i h t. let z : ⊥ = omega arith in absurd z; others = λ i p h z. refl }
+
+  pub pivot-more : (v₀ v : List Float) (k : ℕ) (d : Float) → k < 64 → 4096 ≤ length v₀ → Pivots diag a lda p₀ k v₀ v
+      → ((t : Transpose) → d ≡ withDiagonal 1f diag (entryOf (opForm t) a lda) (p₀ + k) (p₀ + k))
+      → Pivots diag a lda p₀ (k + 1) v₀ (set v (k * 64 + k) d)
+  pivot-more v₀ v k d few room s ed =
+      record {
+        same-length = length-set v (k * 64 + k) d ∙ s .same-length;
+        own = λ i h t.
+            ⊎-elim
+            (λ (z : i < k). getD-set-other v (k * 64 + k) (i * 64 + i) d nan (λ y. omega arith) ∙ s .own i z t)
+            (λ z.
+            let e : k ≡ i = omega arith in
+            subst (λ (j : ℕ). at (set v (k * 64 + k) d) (j * 64 + j) ≡ withDiagonal 1f diag (entryOf (opForm t) a lda) (p₀ + j) (p₀ + j)) e
+            (getD-set-same v (k * 64 + k) d nan (omega (arith, s .same-length)) ∙ ed t))
+            (lt-or-ge i k);
+        others = λ i p h z. getD-set-other v (k * 64 + k) (i * 64 + p) d nan (λ y. z (omega arith)) ∙ s .others i p h z;
+      }
+
+  -- all of the diagonal, in the place of the coefficients' own
+  pub triangle-held : (left after : Bool) (t : Transpose) (n : ℕ) (v₀ v : List Float) → n ≤ 64
+      → ((i p : ℕ) → i < n → p < n → Beside after i p → at v₀ (i * 64 + turn false n p) ≡ coefficient left (entryOf (opForm t) a lda) (p₀ + i) (p₀ + p))
+      → Pivots diag a lda p₀ n v₀ v
+      → (i p : ℕ) → i < n → p < n → has after i p ≡ true → at v (i * 64 + p) ≡ coefficient left (withDiagonal 1f diag (entryOf (opForm t) a lda)) (p₀ + i) (p₀ + p)
+  unfolding turn
+  triangle-held left after t n v₀ v few coefficients s i p hi hp h =
+      ⊎-elim
+      (λ (z : i ≡ p).
+      subst (λ (k : ℕ). at v (i * 64 + k) ≡ coefficient left (withDiagonal 1f diag (entryOf (opForm t) a lda)) (p₀ + i) (p₀ + k)) z
+      (s .own i hi t ∙ coefficient-own left (withDiagonal 1f diag (entryOf (opForm t) a lda)) (p₀ + i)))
+      (λ z.
+      s .others i p (omega arith) z ∙ coefficients i p hi hp (has-beside after i p h z)
+      ∙ coefficient-beside left diag (entryOf (opForm t) a lda) (p₀ + i) (p₀ + p) (λ y. z (omega arith)))
+      (same-or-not i p)
 
 -- ---- the terms
 
--- a turn of a loop over the first elements of the lines, for side L
-module _ (ld : ℕ) (pos : 0 < ld) (f : ℕ → Float → Float) (b₀ : List Float) where
-  known : EntryMap Float
-  known i l e = f l (at b₀ (l * ld + i))
+has-from : (after : Bool) (p₀ q p : ℕ) → has after q p ≡ has after (p₀ + q) (p₀ + p)
+unfolding has
+has-from true p₀ q p =
+    ⊎-elim (λ (h : p < q). lt-leb q p h ∙ sym (lt-leb (p₀ + q) (p₀ + p) (omega arith))) (λ h. le-leb q p h ∙ sym (le-leb (p₀ + q) (p₀ + p) (omega arith))) (lt-or-ge p q)
+has-from false p₀ q p =
+    ⊎-elim (λ (h : q < p). lt-leb p q h ∙ sym (lt-leb (p₀ + p) (p₀ + q) (omega arith))) (λ h. le-leb p q h ∙ sym (le-leb (p₀ + p) (p₀ + q) (omega arith))) (lt-or-ge q p)
 
-  same-known : (n : ℕ) → update (region ld 1 n (λ i l e. f l e)) b₀ ≡ update (region ld 1 n known) b₀
-  unfolding grid cell known
-  same-known n = grid-same-at nan true ld 1 n (λ i l e. f l e) known b₀ (λ q l hq hl. refl)
+-- the factors that are held, by the side: alpha is in u for side L and in v for side R
+term-left : (alpha : Float) (T : Matrix) (q p : ℕ) (e x v u : Float) → v ≡ coefficient true T q p → u ≡ alpha ⊗ x → e ⊕ v ⊗ u ≡ lineTerm true alpha T q e p x
+unfolding coefficient lineTerm
+term-left alpha T q p e x v u ev eu = ap₂ (λ (s r : Float). e ⊕ s ⊗ r) ev eu ∙ ap (λ (r : Float). e ⊕ r) (⊗-comm (T q p) (alpha ⊗ x))
 
-  pub own-more : (j to : ℕ) (b : List Float) → to ≡ j * ld → j * ld < length b₀ → b ≡ update (region ld 1 j (λ i l e. f l e)) b₀
-      → set b to (f j (at b to)) ≡ update (region ld 1 (j + 1) (λ i l e. f l e)) b₀
-  unfolding region known
-  own-more j to b et low e =
-      ap (λ (k : ℕ). set b k (f j (at b k))) et
-      ∙ row-more nan ld pos j known b₀ b (f j (at b (j * ld))) low (e ∙ same-known j) (λ x. sym (ap (f j) untouched))
-      ∙ sym (same-known (j + 1))
-    where
-      untouched : at b (j * ld) ≡ at b₀ (j * ld + 0)
-      untouched =
-          ap (at b) (sym (add-zero (j * ld))) ∙ ap (λ (k : List Float). at k (j * ld + 0)) e
-          ∙ entry-kept nan ld _ b₀ 0 j pos (λ x. boxed-column-out 1 j (λ i l e. f l e) 0 j x (omega arith))
+term-right : (alpha : Float) (T : Matrix) (q p : ℕ) (e x v u : Float) → v ≡ alpha ⊗ coefficient false T q p → u ≡ x → e ⊕ v ⊗ u ≡ lineTerm false alpha T q e p x
+unfolding coefficient lineTerm
+term-right alpha T q p e x v u ev eu = ap₂ (λ (s r : Float). e ⊕ s ⊗ r) ev eu
 
-module _ (ld m lines p : ℕ) (alpha d : Float) (x b ys : List Float) (low : p < m) (some : 0 < lines) where
-  -- the part of B that starts with element p of the first line came back with the term
-  pub own-left : (left : Bool) → left ≡ true → Room left ld m lines (length b)
-      → ys ≡ update (region ld 1 lines (λ i l e. e ⊕ (alpha ⊗ at x (l * 64)) ⊗ d)) (take (length b - p) (drop p b))
-      → putMid p (length b - p) b ys ≡ update (grid left ld m lines (λ q l e. if within p 1 q then lineTerm left alpha (λ _ _. d) q e p (at x (cell left 64 0 l)) else e)) b
-  unfolding grid cell lineTerm
-  own-left false e room ey = absurd (true≢false (sym e))
-  own-left true e room ey =
-      grid-lent nan true ld m lines p 1 p _ _ b ys (some-ld true ld m lines (length b) (omega arith) some room) room (omega arith) (omega arith)
-      (let k = cell-inside true ld m lines (length b) p 0 room low some in omega (arith, k)) ey
-      (λ q l hq hl e. ap (λ (k : ℕ). e ⊕ (alpha ⊗ at x k) ⊗ d) (sym (add-zero (l * 64))))
+module _ (after : Bool) (alpha : Float) (T : Matrix) (p₀ n lines : ℕ) (X : ℕ → ℕ → Float) where
+  -- all terms, if each is
+  terms-held : (left : Bool) (u v : List Float) (q l : ℕ) (e : Float)
+      → ((p : ℕ) → p < n → has after q p ≡ true → (e : Float) → e ⊕ at v (q * 64 + p) ⊗ at u (p * 64 + l) ≡ lineTerm left alpha T (p₀ + q) e (p₀ + p) (X p l))
+      → heldTerms after n u v q l e ≡ fold (termFrom left after alpha T p₀ (λ k. X k l) (p₀ + q)) n e
+  unfolding heldTerms termFrom among
+  terms-held left u v q l e h =
+      fold-same _ _ n e
+      (λ p b e.
+      if-both (has after q p) _ e _ e (λ k. h p b k e) (λ _. refl)
+      ∙ ap (λ (t : Bool). if t then lineTerm left alpha T (p₀ + q) e (p₀ + p) (X p l) else e) (has-from after p₀ q p))
 
-  pub own-right : (left : Bool) → left ≡ false → Room left ld m lines (length b) → (to : ℕ) → to ≡ p * ld → (t : List Float) → at t 0 ≡ alpha ⊗ d
-      → ys ≡ update (below lines (λ i e. packed 1 x t i 0 e)) (take (length b - to) (drop to b))
-      → putMid to (length b - to) b ys ≡ update (grid left ld m lines (λ q l e. if within p 1 q then lineTerm left alpha (λ _ _. d) q e p (at x (cell left 64 0 l)) else e)) b
-  unfolding grid cell lineTerm
-  own-right true e room to et t ed ey = absurd (true≢false e)
-  own-right false e room to et t ed ey =
-      let pos : 0 < ld = some-ld false ld m lines (length b) (omega arith) some room in
-      grid-lent nan false ld m lines p 1 to _ _ b ys pos room (omega arith) (omega arith)
-      (let k = cell-inside false ld m lines (length b) p 0 room low some in omega (arith, k))
-      (ey ∙ one-column nan ld pos lines (λ i e. packed 1 x t i 0 e) (take (length b - to) (drop to b)) (omega (arith, room)))
-      (λ q l hq hl e. packed-one x t l 0 e ∙ ap₂ (λ (v : Float) (k : ℕ). e ⊕ v ⊗ at x k) ed (let z : l ≡ 0 * 64 + l = omega arith in z))
+  module _ (x₀ x v z r : List Float) (hn : n ≤ 64) (hl : lines ≤ 64) (sn : 0 < n) (sl : 0 < lines) (room : 4096 ≤ length x₀)
+      (ex : x ≡ update (grid false 64 n lines (λ q l _. X q l)) x₀) where
+    same : length x ≡ length x₀
+    same = ap length ex ∙ length-update _ x₀
+
+    value : (p l : ℕ) → p < n → l < lines → at x (p * 64 + l) ≡ X p l
+    unfolding cell
+    value p l hp hll = grid-at nan false 64 n lines (λ q l _. X q l) x₀ x p l (buffer-room false n lines (length x₀) hn hl sn sl room) hp hll ex
+
+    -- side L: the values times alpha
+    pub diagonal-left : (left : Bool) → left ≡ true → (u : List Float) → u ≡ update (region 64 lines n (λ i j y. alpha ⊗ y)) x
+        → ((q p : ℕ) → q < n → p < n → has after q p ≡ true → at v (q * 64 + p) ≡ coefficient left T (p₀ + q) (p₀ + p))
+        → r ≡ update (grid true 64 n lines (λ q l e. heldTerms after n u v q l e)) z
+        → r ≡ update (grid left 64 n lines (λ q l e. fold (termFrom left after alpha T p₀ (λ k. X k l) (p₀ + q)) n e)) z
+    unfolding grid cell
+    diagonal-left left side u eu ev er =
+        rw side
+        (er ∙ grid-same true 64 n lines _ _ z (omega arith)
+        (λ q l hq hll e.
+        terms-held true u v q l e
+        (λ p hp h e.
+        term-left alpha T (p₀ + q) (p₀ + p) e (X p l) _ _ (rw side at (ev q p hq hp h))
+        (grid-at nan false 64 n lines (λ _ _ y. alpha ⊗ y) x u p l (buffer-room false n lines (length x) hn hl sn sl (omega (arith, same))) hp hll eu ∙ ap (λ (y : Float). alpha ⊗ y) (value p l hp hll)))))
+
+    -- side R: the coefficients times alpha
+    pub diagonal-right : (left : Bool) → left ≡ false → (w : List Float) → 4096 ≤ length v → w ≡ update (region 64 n n (λ i j y. alpha ⊗ y)) v
+        → ((q p : ℕ) → q < n → p < n → has after q p ≡ true → at v (q * 64 + p) ≡ coefficient left T (p₀ + q) (p₀ + p))
+        → r ≡ update (grid false 64 n lines (λ q l e. heldTerms after n x w q l e)) z
+        → r ≡ update (grid left 64 n lines (λ q l e. fold (termFrom left after alpha T p₀ (λ k. X k l) (p₀ + q)) n e)) z
+    unfolding grid cell
+    diagonal-right left side w held ew ev er =
+        rw side
+        (er ∙ grid-same false 64 n lines _ _ z (omega arith)
+        (λ q l hq hll e.
+        terms-held false x w q l e
+        (λ p hp h e.
+        term-right alpha T (p₀ + q) (p₀ + p) e (X p l) _ _
+        (grid-at nan false 64 n n (λ _ _ y. alpha ⊗ y) v w q p (buffer-room false n n (length v) hn hn sn sn held) hq hp ew
+        ∙ ap (λ (y : Float). alpha ⊗ y) (rw side at (ev q p hq hp h))) (value p l hp hll))))

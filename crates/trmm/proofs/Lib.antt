@@ -1,7 +1,7 @@
 pub mod ChosenLaws
 pub mod SumLaws
+pub mod WalkLaws
 pub mod DiagonalLaws
-pub mod TermLaws
 pub mod BlockLaws
 pub mod OrderLaws
 pub mod StripLaws

@@ -1,11 +1,10 @@
 -- The lines of a strip that have their values are the strip of TRMM.
 -- Assumes nothing.
-use Prim.Native.Nat.{ℕ, _+_, _*_, _≤_, _<_}
+use Prim.Native.Nat.{ℕ, _+_, _*_, _<_}
 use mathlib.Core.Path.{_≡_, refl, sym, ap, ap₂, subst, _∙_}
 use mathlib.Core.Bool.{Bool, true, false, not}
 use mathlib.Core.List.{List}
 use native.Mathlib.Nat.{zero-add}
-use native.Mathlib.Omega.{arith}
 use lib.Ieee.{Float, nan}
 use Rattle.arrays.specs.Choice.{if_then_else_}
 use Rattle.arrays.specs.Update.{update}
@@ -15,10 +14,9 @@ use Rattle.arrays.proofs.FoldLaws.{fold-same}
 use Rattle.floats.specs.Array.{at}
 use Rattle.floats.specs.Operations.{0f, 1f}
 use Rattle.definitions.specs.Number.{isZero, factor}
-use Rattle.definitions.specs.Storage.{stored, inside, opTriangle, needed, withDiagonal}
-use Rattle.definitions.specs.Call.{_by_, bySide, hasK, inPlace, order, inTriangle, cutsRows, extent, shapeA, shapeB}
+use Rattle.definitions.specs.Storage.{stored, inside, opTriangle, withDiagonal}
+use Rattle.definitions.specs.Call.{bySide, inPlace, order, inTriangle}
 use Rattle.definitions.specs.Element.{Floats, _times_, term, productTerm, triangular, triangle, trmm, solvesUp, value, StripOf}
-use Rattle.definitions.specs.declared.Routine.{Routine}
 use Rattle.definitions.specs.declared.Routine.the-variants.{Trmm}
 use Rattle.definitions.specs.declared.Side.{Side}
 use Rattle.definitions.specs.declared.Side.the-variants.{Left, Right}
@@ -26,26 +24,22 @@ use Rattle.definitions.specs.declared.Triangle.{Triangle}
 use Rattle.definitions.specs.declared.Triangle.the-variants.{Lower, Upper}
 use Rattle.definitions.specs.declared.Scalar.{Scalar}
 use Rattle.definitions.specs.declared.Call.{Call}
-use Rattle.definitions.proofs.Fits as Arrays
-use Rattle.definitions.proofs.Fits.{Fits}
-use Rattle.packing.specs.Factor.{Matrix, indexOf, entryOf}
+use Rattle.packing.specs.Factor.{Matrix, entryOf}
 use Rattle.forms.specs.Forms.{opForm}
 use Rattle.forms.proofs.Entries.{op-entry}
-use Rattle.forms.proofs.Rooms.{some-factor}
-use Rattle.lines.specs.Lines.{cell, grid, within, lineTerm, Room}
-use Rattle.lines.proofs.GridLaws.{within-in, grid-same}
-use Rattle.lines.proofs.StripLaws.{order-inside, left-room, right-room, left-entry, right-entry, left-strip, right-strip}
+use Rattle.lines.specs.Lines.{cell, grid, lineTerm}
+use Rattle.lines.proofs.GridLaws.{grid-same}
+use Rattle.lines.proofs.StripLaws.{other-side, LinesFit, left-entry, right-entry, left-strip, right-strip}
 use Rattle.trmm.specs.Sum.{has, termFrom, sumOf, lineValue}
 
 -- ---- all lines, by the cases of alpha
 
 module _ (left after : Bool) (alpha : Scalar) (T : Matrix) (ld m lines : ℕ) (pos : 0 < ld) (b r : List Float) where
-  pub lines-cleared : isZero alpha ≡ true → r ≡ update (grid left ld m lines (λ q l e. if within 0 m q then 0f else e)) b
+  pub lines-cleared : isZero alpha ≡ true → r ≡ update (grid left ld m lines (λ q l _. 0f)) b
       → r ≡ update (grid left ld m lines (λ q l e. lineValue left after alpha T m (λ p. at b (cell left ld p l)) q)) b
   unfolding lineValue
   lines-cleared z e =
-      e ∙ grid-same left ld m lines _ _ b pos
-      (λ q l hq hl x. if-true (within 0 m q) _ _ (within-in 0 m q (omega arith) (omega arith)) ∙ sym (if-true (isZero alpha) _ _ z))
+      e ∙ grid-same left ld m lines _ _ b pos (λ q l hq hl x. sym (if-true (isZero alpha) _ _ z))
 
   pub lines-summed : isZero alpha ≡ false → (f : Float) → f ≡ factor alpha
       → r ≡ update (grid left ld m lines (λ q l e. sumOf left after f T m (λ p. at b (cell left ld p l)) q)) b
@@ -64,11 +58,6 @@ has-inside Left Lower i j l = refl
 has-inside Left Upper i j l = refl
 has-inside Right Lower i j l = refl
 has-inside Right Upper i j l = refl
-
-other-side : (t : Triangle) → solvesUp Left t ≡ not (solvesUp Right t)
-unfolding solvesUp
-other-side Lower = refl
-other-side Upper = refl
 
 term-is : (s : Side) (alpha : Float) (T B : Floats) (i j : ℕ) (e : Float) (l : ℕ)
     → productTerm alpha (bySide s (T times B) (B times T)) i j e l ≡ lineTerm (bySide s true false) alpha T (bySide s i j) e l (bySide s (B l j) (B i l))
@@ -109,58 +98,31 @@ module _ (c : Call) where
       (λ (M : Matrix). lineValue (bySide s true false) (after s) (c .alpha) (withDiagonal 1f (c .diag) M) (bySide s (c .m) (c .n)) (λ p. bySide s (stored nan b (c .ldb) p j) (stored nan b (c .ldb) i p)) (bySide s i j))
       (op-entry (c .transa) a (c .lda))
 
--- ---- the strip of a call that fits
+-- ---- the lines that have their values are the strip; `low` says that op(A) is lower
 
-module _ (c : Call) (from lines lena len lenc : ℕ) (f : Fits Trmm c lena (bySide (c .side) (from * c .ldb) from + len) lenc) (fit : from + lines ≤ extent c) where
-  fits-across : (s : Side) → c .side ≡ s → from + lines ≤ bySide s (c .n) (c .m)
-  unfolding extent cutsRows inPlace bySide
-  fits-across Left es = subst (λ (k : ℕ). from + lines ≤ k) (ap₂ (λ (r : Routine) (s : Side). if cutsRows r s then c .m else c .n) (f .routine-is) es) fit
-  fits-across Right es = subst (λ (k : ℕ). from + lines ≤ k) (ap₂ (λ (r : Routine) (s : Side). if cutsRows r s then c .m else c .n) (f .routine-is) es) fit
+module _ (c : Call) (from lines la len : ℕ) (e : c .routine ≡ Trmm) (a b : List Float) (low : Bool) (is-low : low ≡ solvesUp Left (opTriangle (c .transa) (c .uplo))) (old ys : List Float) where
+  starting : (s : Side) → c .side ≡ s → StripOf c a b from (from + lines) (bySide s (from * c .ldb) from) old ys
+      → StripOf c a b from (from + lines) (bySide (c .side) (from * c .ldb) from) old ys
+  starting s es = subst (λ (s : Side). StripOf c a b from (from + lines) (bySide s (from * c .ldb) from) old ys) (sym es)
 
-  room-b : (s : Side) → c .side ≡ s → needed (c .ldb) (c .m) (c .n) ≤ bySide s (from * c .ldb) from + len
-  unfolding shapeB inPlace
-  room-b s es = subst (λ (s : Side). needed (c .ldb) (c .m) (c .n) ≤ bySide s (from * c .ldb) from + len) es (f .room-written-b refl)
+  pub strip-left : c .side ≡ Left → LinesFit c true from (c .m) lines (c .n) la len
+      → ys ≡ update (grid true (c .ldb) (c .m) lines (λ q l _. lineValue true (not low) (c .alpha) (T c a) (c .m) (λ p. at old (cell true (c .ldb) p l)) q)) old
+      → StripOf c a b from (from + lines) (bySide (c .side) (from * c .ldb) from) old ys
+  unfolding bySide inPlace inTriangle
+  strip-left es k ey =
+      starting Left es
+      (left-strip c a b from lines Trmm e refl (λ i j. refl) (k .some-rows) (k .fit) es (k .within) _ old ys ey
+      (λ l eo i j hi hj y.
+      ap₂ (λ (h : Bool) (x : ℕ → Float). lineValue true h (c .alpha) (T c a) (c .m) x i) (ap not is-low) (λ t p. left-entry (c .ldb) from l old p j eo t)
+      ∙ sym (value-is c Left es a l i (from + j) y)))
 
-  pub room-left : 0 < lines → c .side ≡ Left → Room true (c .ldb) (c .m) lines len
-  unfolding shapeB bySide
-  room-left some es = left-room (c .ldb) (c .m) (c .n) from lines len (room-b Left es) (f .some-rows) some (fits-across Left es) (f .ld-b)
-
-  pub room-right : c .side ≡ Right → Room false (c .ldb) (c .n) lines len
-  unfolding shapeB bySide
-  room-right es = right-room (c .ldb) (c .m) (c .n) from lines len (room-b Right es) (f .some-rows) (f .some-columns) (fits-across Right es) (f .ld-b)
-
-  -- an entry of op(A) is in the array
-  pub inside-a : (s : Side) → c .side ≡ s → isZero (c .alpha) ≡ false
-      → (i j : ℕ) → i < bySide s (c .m) (c .n) → j < bySide s (c .m) (c .n) → indexOf (opForm (c .transa)) (c .lda) i j < lena
-  unfolding shapeA order hasK
-  inside-a s es z =
-      order-inside (c .transa) (c .lda) (bySide s (c .m) (c .n)) lena
-      (subst (λ (s : Side). Arrays.Room lena (c .lda) (bySide s (c .m) (c .n) by bySide s (c .m) (c .n))) es (f .room-a (some-factor c (ap hasK (f .routine-is)) z)))
-
-  -- the lines that have their values are the strip; `low` says that op(A) is lower
-  module _ (a b : List Float) (low : Bool) (is-low : low ≡ solvesUp Left (opTriangle (c .transa) (c .uplo))) (old ys : List Float) where
-    starting : (s : Side) → c .side ≡ s → StripOf c a b from (from + lines) (bySide s (from * c .ldb) from) old ys
-        → StripOf c a b from (from + lines) (bySide (c .side) (from * c .ldb) from) old ys
-    starting s es = subst (λ (s : Side). StripOf c a b from (from + lines) (bySide s (from * c .ldb) from) old ys) (sym es)
-
-    pub strip-left : c .side ≡ Left
-        → ys ≡ update (grid true (c .ldb) (c .m) lines (λ q l _. lineValue true (not low) (c .alpha) (T c a) (c .m) (λ p. at old (cell true (c .ldb) p l)) q)) old
-        → StripOf c a b from (from + lines) (bySide (c .side) (from * c .ldb) from) old ys
-    unfolding bySide shapeB inPlace inTriangle
-    strip-left es ey =
-        starting Left es
-        (left-strip c a b from lines Trmm (f .routine-is) refl (λ i j. refl) (f .some-rows) (f .ld-b) es (fits-across Left es) _ old ys ey
-        (λ l eo i j hi hj y.
-        ap₂ (λ (h : Bool) (x : ℕ → Float). lineValue true h (c .alpha) (T c a) (c .m) x i) (ap not is-low) (λ t p. left-entry (c .ldb) from l old p j eo t)
-        ∙ sym (value-is c Left es a l i (from + j) y)))
-
-    pub strip-right : c .side ≡ Right
-        → ys ≡ update (grid false (c .ldb) (c .n) lines (λ q l _. lineValue false low (c .alpha) (T c a) (c .n) (λ p. at old (cell false (c .ldb) p l)) q)) old
-        → StripOf c a b from (from + lines) (bySide (c .side) (from * c .ldb) from) old ys
-    unfolding bySide shapeB inPlace inTriangle
-    strip-right es ey =
-        starting Right es
-        (right-strip c a b from lines Trmm (f .routine-is) refl (λ i j. refl) (f .some-rows) (f .ld-b) es (fits-across Right es) _ old ys ey
-        (λ l eo i j hi hj y.
-        ap₂ (λ (h : Bool) (x : ℕ → Float). lineValue false h (c .alpha) (T c a) (c .n) x j) (is-low ∙ other-side (opTriangle (c .transa) (c .uplo))) (λ t p. right-entry (c .ldb) from l old p i eo t)
-        ∙ sym (value-is c Right es a l (from + i) j y)))
+  pub strip-right : c .side ≡ Right → LinesFit c false from (c .n) lines (c .m) la len
+      → ys ≡ update (grid false (c .ldb) (c .n) lines (λ q l _. lineValue false low (c .alpha) (T c a) (c .n) (λ p. at old (cell false (c .ldb) p l)) q)) old
+      → StripOf c a b from (from + lines) (bySide (c .side) (from * c .ldb) from) old ys
+  unfolding bySide inPlace inTriangle
+  strip-right es k ey =
+      starting Right es
+      (right-strip c a b from lines Trmm e refl (λ i j. refl) (k .some-rows) (k .fit) es (k .within) _ old ys ey
+      (λ l eo i j hi hj y.
+      ap₂ (λ (h : Bool) (x : ℕ → Float). lineValue false h (c .alpha) (T c a) (c .n) x j) (is-low ∙ other-side (opTriangle (c .transa) (c .uplo))) (λ t p. right-entry (c .ldb) from l old p i eo t)
+      ∙ sym (value-is c Right es a l (from + i) j y)))

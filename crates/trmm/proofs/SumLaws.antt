@@ -40,7 +40,7 @@ has-not-before q p a h = rw (a, lt-leb p q h)
 -- ---- one term
 
 -- it reads one entry of op(A)
-pub same-entry : (left : Bool) (alpha : Float) (T S : Matrix) (q : ℕ) (e : Float) (p : ℕ) (x : Float) → T q p ≡ S q p → T p q ≡ S p q
+same-entry : (left : Bool) (alpha : Float) (T S : Matrix) (q : ℕ) (e : Float) (p : ℕ) (x : Float) → T q p ≡ S q p → T p q ≡ S p q
     → lineTerm left alpha T q e p x ≡ lineTerm left alpha S q e p x
 unfolding lineTerm
 same-entry true alpha T S q e p x h k = ap (λ (u : Float). e ⊕ (alpha ⊗ x) ⊗ u) h
@@ -59,16 +59,16 @@ beside-term left alpha diag M q e p x h =
 
 module _ (left after : Bool) (alpha : Float) (T : Matrix) where
   module _ (lo : ℕ) (x : ℕ → Float) (q : ℕ) (e : Float) (i : ℕ) where
-    pub term-in : has after q (lo + i) ≡ true → termFrom left after alpha T lo x q e i ≡ lineTerm left alpha T q e (lo + i) (x i)
+    term-in : has after q (lo + i) ≡ true → termFrom left after alpha T lo x q e i ≡ lineTerm left alpha T q e (lo + i) (x i)
     unfolding termFrom among
     term-in h = rw h
 
-    pub term-out : has after q (lo + i) ≡ false → termFrom left after alpha T lo x q e i ≡ e
+    term-out : has after q (lo + i) ≡ false → termFrom left after alpha T lo x q e i ≡ e
     unfolding termFrom among
     term-out h = rw h
 
     -- the value of a term that the element does not have is not read
-    pub term-same : (y : ℕ → Float) → (has after q (lo + i) ≡ true → x i ≡ y i) → termFrom left after alpha T lo x q e i ≡ termFrom left after alpha T lo y q e i
+    term-same : (y : ℕ → Float) → (has after q (lo + i) ≡ true → x i ≡ y i) → termFrom left after alpha T lo x q e i ≡ termFrom left after alpha T lo y q e i
     unfolding termFrom among
     term-same y h = if-both (has after q (lo + i)) _ e _ e (λ k. ap (lineTerm left alpha T q e (lo + i)) (h k)) (λ _. refl)
 
@@ -88,38 +88,29 @@ module _ (left after : Bool) (alpha : Float) (T : Matrix) where
         ∙ fold-same _ _ n _ (λ i b e. ap (λ (k : ℕ). if has after q k then lineTerm left alpha T q e k (x (p + i)) else e) (zero-add (p + i)))
 
     -- the terms after the block's are had by all of its elements, those before it by none
-    pub sum-after : (p n rest m : ℕ) → p + n + rest ≡ m → after ≡ true → p ≤ q → q < p + n
-        → fold (λ e i. lineTerm left alpha T q e (p + n + i) (x (p + n + i))) rest (fold (termFrom left after alpha T p (λ i. x (p + i)) q) n 0f)
-        ≡ sumOf left after alpha T m x q
-    unfolding sumOf
-    sum-after p n rest m em a lo hi =
-        sym (ap (λ (k : ℕ). fold (termFrom left after alpha T 0 x q) k 0f) (sym em)
-        ∙ terms-split (p + n) rest 0f
+    pub sum-after : (p n rest m : ℕ) (e : Float) → p + n + rest ≡ m → after ≡ true → p ≤ q → q < p + n
+        → fold (λ e i. lineTerm left alpha T q e (p + n + i) (x (p + n + i))) rest (fold (termFrom left after alpha T p (λ i. x (p + i)) q) n e)
+        ≡ fold (termFrom left after alpha T 0 x q) m e
+    sum-after p n rest m e em a lo hi =
+        sym (ap (λ (k : ℕ). fold (termFrom left after alpha T 0 x q) k e) (sym em)
+        ∙ terms-split (p + n) rest e
         ∙ ap (fold (termFrom left after alpha T (p + n) (λ i. x (p + n + i)) q) rest)
-        (terms-split p n 0f
-        ∙ ap (fold (termFrom left after alpha T p (λ i. x (p + i)) q) n) (terms-none 0 p 0f (λ i b. has-not-after q (0 + i) a (omega arith))))
-        ∙ behind (fold (termFrom left after alpha T p (λ i. x (p + i)) q) n 0f))
-      where
-        behind : (e : Float) → fold (termFrom left after alpha T (p + n) (λ i. x (p + n + i)) q) rest e
-            ≡ fold (λ e i. lineTerm left alpha T q e (p + n + i) (x (p + n + i))) rest e
-        behind e = fold-same _ _ rest e (λ i b e. term-in (p + n) (λ i. x (p + n + i)) q e i (has-after q (p + n + i) a (omega arith)))
+        (terms-split p n e
+        ∙ ap (fold (termFrom left after alpha T p (λ i. x (p + i)) q) n) (terms-none 0 p e (λ i b. has-not-after q (0 + i) a (omega arith))))
+        ∙ fold-same _ _ rest _ (λ i b e. term-in (p + n) (λ i. x (p + n + i)) q e i (has-after q (p + n + i) a (omega arith))))
 
     -- the terms before the block's are had by all of its elements, those after it by none
-    pub sum-before : (p n rest m : ℕ) → p + n + rest ≡ m → after ≡ false → p ≤ q → q < p + n
-        → fold (termFrom left after alpha T p (λ i. x (p + i)) q) n (fold (λ e i. lineTerm left alpha T q e (0 + i) (x (0 + i))) p 0f)
-        ≡ sumOf left after alpha T m x q
-    unfolding sumOf
-    sum-before p n rest m em a lo hi =
-        sym (ap (λ (k : ℕ). fold (termFrom left after alpha T 0 x q) k 0f) (sym em)
-        ∙ terms-split (p + n) rest 0f
-        ∙ behind (fold (termFrom left after alpha T 0 x q) (p + n) 0f)
-        ∙ terms-split p n 0f
+    pub sum-before : (p n rest m : ℕ) (e : Float) → p + n + rest ≡ m → after ≡ false → p ≤ q → q < p + n
+        → fold (termFrom left after alpha T p (λ i. x (p + i)) q) n (fold (λ e i. lineTerm left alpha T q e (0 + i) (x (0 + i))) p e)
+        ≡ fold (termFrom left after alpha T 0 x q) m e
+    sum-before p n rest m e em a lo hi =
+        sym (ap (λ (k : ℕ). fold (termFrom left after alpha T 0 x q) k e) (sym em)
+        ∙ terms-split (p + n) rest e
+        ∙ fold-keep _ rest _ (λ i b e. term-out (p + n) (λ i. x (p + n + i)) q e i (has-not-before q (p + n + i) a (omega arith)))
+        ∙ terms-split p n e
         ∙ ap (fold (termFrom left after alpha T p (λ i. x (p + i)) q) n)
-        (fold-same _ _ p 0f
+        (fold-same _ _ p e
         (λ i b e. term-in 0 x q e i (has-before q (0 + i) a (omega arith)) ∙ ap (λ (k : ℕ). lineTerm left alpha T q e (0 + i) (x k)) (sym (zero-add i)))))
-      where
-        behind : (e : Float) → fold (termFrom left after alpha T (p + n) (λ i. x (p + n + i)) q) rest e ≡ e
-        behind e = fold-keep _ rest e (λ i b e. term-out (p + n) (λ i. x (p + n + i)) q e i (has-not-before q (p + n + i) a (omega arith)))
 
   -- an element's sum does not read the elements whose terms it does not have
   pub sum-same : (m : ℕ) (x y : ℕ → Float) (q : ℕ) → ((p : ℕ) → p < m → has after q p ≡ true → x p ≡ y p)

@@ -1,46 +1,31 @@
 // A block of elements of each line becomes its part of the product. What it reads of the line is still as the block finds it.
 ghost use mathlib.Core.Path.{_≡_};
-ghost use mathlib.Core.Bool.{false};
+ghost use mathlib.Core.Bool.{true, false};
 ghost use Prim.Native.Nat.{ℕ, _+_, _≤_, _<_};
 ghost use lib.ListN.{length};
 ghost use Rattle.arrays.specs.Choice.{if_then_else_};
 ghost use Rattle.arrays.specs.Update.{update};
 ghost use Rattle.arrays.specs.Fold.{fold};
 ghost use Rattle.floats.specs.Array.{at};
-ghost use Rattle.floats.specs.Operations.{0f, 1f};
+ghost use Rattle.floats.specs.Operations.{1f};
 ghost use Rattle.definitions.specs.Storage.{withDiagonal};
 ghost use Rattle.packing.specs.Factor.{indexOf, entryOf};
 ghost use Rattle.forms.specs.Forms.{opForm};
 ghost use Rattle.lines.specs.Lines.{cell, grid, within, lineTerm, Room};
-ghost use Rattle.trmm.specs.Sum.{sumOf};
+ghost use Rattle.trmm.specs.Sum.{termFrom, sumOf};
 use super::diagonal;
-use blocks::pass;
 use definitions::Diagonal;
 use definitions::Transpose;
-use kernel::panels;
+use packing::Form;
+use packing::factor;
 
-// +0.0 in the n elements from p0 on of each line.
-pub fn clear(left: bool, b: &mut [f64], ld: usize, m: usize, lines: usize, p0: usize, n: usize)
-    requires { ⌜ (0 < n) × (p0 + n ≤ m) × (0 < lines) ⌝ }
-    requires { ⌜ Room left ld m lines (length (now b)) ⌝ }
-    ensures { λ _. ⌜ now (b .exit) ≡ update (grid left ld m lines (λ q l e. if within p0 n q then 0f else e)) (now (b .entry)) ⌝ }
-{
-    if left {
-        pass::clear(&mut b[p0..], ld, n, lines);
-        return;
-    }
-    let to = p0 * ld;
-    pass::clear(&mut b[to..], ld, lines, n);
-}
-
-// All terms of the `count` elements from lo on, which are beside the block, for the n elements from p0 on: panels of r terms, with the buffer y.
-fn beside(
-    left: bool,
+// Side L: all terms of the `count` elements from lo on for the n elements from p0 on, whose sums are in z.
+fn beside_left(
     alpha: f64,
     t: Transpose,
     a: &[f64],
     lda: usize,
-    b: &mut [f64],
+    b: &[f64],
     ld: usize,
     m: usize,
     lines: usize,
@@ -48,44 +33,116 @@ fn beside(
     n: usize,
     lo: usize,
     count: usize,
-    y: &mut [f64],
+    z: &mut [f64],
     r: usize,
 )
-    requires { ⌜ (0 < n) × (n ≤ 64) × (p0 + n ≤ m) × (lo + count ≤ m) × (0 < lines) × (lines ≤ 64) × (0 < r) × (r ≤ 64) × (4096 ≤ length (now y)) ⌝ }
-    requires { ⌜ ((i : ℕ) → i < count → within p0 n (lo + i) ≡ false) ⌝ }
-    requires { ⌜ Room left ld m lines (length (now b)) ⌝ }
+    requires { ⌜ (0 < n) × (n ≤ 64) × (p0 + n ≤ m) × (0 < count) × (lo + count ≤ m) × (0 < lines) × (lines ≤ 64) × (0 < r) × (r ≤ 64) × (4096 ≤ length (now z)) ⌝ }
+    requires { ⌜ Room true ld m lines (length (now b)) ⌝ }
     requires { ⌜ ((i j : ℕ) → i < m → j < m → indexOf (opForm t) lda i j < length (now a)) ⌝ }
-    ensures { λ _. ⌜ (now (b .exit) ≡ update (grid left ld m lines (λ q l e. if within p0 n q then fold (λ e i. lineTerm left alpha (entryOf (opForm t) (now (a .entry)) lda) q e (lo + i) (at (now (b .entry)) (cell left ld (lo + i) l))) count e else e)) (now (b .entry))) × (length (now (y .exit)) ≡ length (now (y .entry))) ⌝ }
+    ensures { λ _. ⌜ now (z .exit) ≡ update (grid true 64 n lines (λ q l e. fold (λ e i. lineTerm true alpha (entryOf (opForm t) (now (a .entry)) lda) (p0 + q) e (lo + i) (at (now (b .entry)) (cell true ld (lo + i) l))) count e)) (now (z .entry)) ⌝ }
 {
-    let mut k = 0;
-    while k < count {
-        let w = panels::smaller(r, count - k);
-        let from = lo + k;
-        lines::take(left, y, b, ld, m, lines, from, w);
-        lines::add_terms(
-            left,
-            false,
-            b,
-            ld,
-            m,
-            lines,
-            alpha,
-            t,
-            a,
-            lda,
-            from,
-            w,
-            p0,
-            n,
-            y,
-            r,
-        );
-        k += w;
-    }
+    let f = forms::op_form(t);
+    let from = factor::place(f, lda, p0, lo);
+    kernel::multiply(
+        z,
+        64,
+        n,
+        lines,
+        count,
+        f,
+        &a[from..],
+        lda,
+        0,
+        Form::Plain,
+        &b[lo..],
+        ld,
+        0,
+        alpha,
+        false,
+        r,
+    );
 }
 
-// The n elements from p0 on of each line become their sums over all m elements, with the buffers x and y.
-pub fn block(
+// Side R: the same, where a line is a row.
+fn beside_right(
+    alpha: f64,
+    t: Transpose,
+    a: &[f64],
+    lda: usize,
+    b: &[f64],
+    ld: usize,
+    m: usize,
+    lines: usize,
+    p0: usize,
+    n: usize,
+    lo: usize,
+    count: usize,
+    z: &mut [f64],
+    r: usize,
+)
+    requires { ⌜ (0 < n) × (n ≤ 64) × (p0 + n ≤ m) × (0 < count) × (lo + count ≤ m) × (0 < lines) × (lines ≤ 64) × (0 < r) × (r ≤ 64) × (4096 ≤ length (now z)) ⌝ }
+    requires { ⌜ Room false ld m lines (length (now b)) ⌝ }
+    requires { ⌜ ((i j : ℕ) → i < m → j < m → indexOf (opForm t) lda i j < length (now a)) ⌝ }
+    ensures { λ _. ⌜ now (z .exit) ≡ update (grid false 64 n lines (λ q l e. fold (λ e i. lineTerm false alpha (entryOf (opForm t) (now (a .entry)) lda) (p0 + q) e (lo + i) (at (now (b .entry)) (cell false ld (lo + i) l))) count e)) (now (z .entry)) ⌝ }
+{
+    let f = forms::op_form(t);
+    let from = factor::place(f, lda, lo, p0);
+    let x = lo * ld;
+    kernel::multiply(
+        z,
+        64,
+        lines,
+        n,
+        count,
+        Form::Plain,
+        &b[x..],
+        ld,
+        0,
+        f,
+        &a[from..],
+        lda,
+        0,
+        alpha,
+        false,
+        r,
+    );
+}
+
+// The same on either side, also of no elements.
+fn beside(
+    left: bool,
+    alpha: f64,
+    t: Transpose,
+    a: &[f64],
+    lda: usize,
+    b: &[f64],
+    ld: usize,
+    m: usize,
+    lines: usize,
+    p0: usize,
+    n: usize,
+    lo: usize,
+    count: usize,
+    z: &mut [f64],
+    r: usize,
+)
+    requires { ⌜ (0 < n) × (n ≤ 64) × (p0 + n ≤ m) × (lo + count ≤ m) × (0 < lines) × (lines ≤ 64) × (0 < r) × (r ≤ 64) × (4096 ≤ length (now z)) ⌝ }
+    requires { ⌜ Room left ld m lines (length (now b)) ⌝ }
+    requires { ⌜ ((i j : ℕ) → i < m → j < m → indexOf (opForm t) lda i j < length (now a)) ⌝ }
+    ensures { λ _. ⌜ now (z .exit) ≡ update (grid left 64 n lines (λ q l e. fold (λ e i. lineTerm left alpha (entryOf (opForm t) (now (a .entry)) lda) (p0 + q) e (lo + i) (at (now (b .entry)) (cell left ld (lo + i) l))) count e)) (now (z .entry)) ⌝ }
+{
+    if count == 0 {
+        return;
+    }
+    if left {
+        beside_left(alpha, t, a, lda, b, ld, m, lines, p0, n, lo, count, z, r);
+        return;
+    }
+    beside_right(alpha, t, a, lda, b, ld, m, lines, p0, n, lo, count, z, r);
+}
+
+// All terms of the n elements from p0 on, whose sums are in z: those of the block itself and those on one side of it, in order.
+fn sums(
     left: bool,
     after: bool,
     diag: Diagonal,
@@ -93,23 +150,20 @@ pub fn block(
     t: Transpose,
     a: &[f64],
     lda: usize,
-    b: &mut [f64],
+    b: &[f64],
     ld: usize,
     m: usize,
     lines: usize,
     p0: usize,
     n: usize,
-    x: &mut [f64],
-    y: &mut [f64],
+    z: &mut [f64],
     r: usize,
 )
-    requires { ⌜ (0 < n) × (n ≤ 64) × (p0 + n ≤ m) × (0 < lines) × (lines ≤ 64) × (0 < r) × (r ≤ 64) × (4096 ≤ length (now x)) × (4096 ≤ length (now y)) ⌝ }
+    requires { ⌜ (0 < n) × (n ≤ 64) × (p0 + n ≤ m) × (0 < lines) × (lines ≤ 64) × (0 < r) × (r ≤ 64) × (4096 ≤ length (now z)) ⌝ }
     requires { ⌜ Room left ld m lines (length (now b)) ⌝ }
     requires { ⌜ ((i j : ℕ) → i < m → j < m → indexOf (opForm t) lda i j < length (now a)) ⌝ }
-    ensures { λ _. ⌜ (now (b .exit) ≡ update (grid left ld m lines (λ q l e. if within p0 n q then sumOf left after alpha (withDiagonal 1f diag (entryOf (opForm t) (now (a .entry)) lda)) m (λ p. at (now (b .entry)) (cell left ld p l)) q else e)) (now (b .entry))) × (length (now (x .exit)) ≡ length (now (x .entry))) × (length (now (y .exit)) ≡ length (now (y .entry))) ⌝ }
+    ensures { λ _. ⌜ now (z .exit) ≡ update (grid left 64 n lines (λ q l e. fold (termFrom left after alpha (withDiagonal 1f diag (entryOf (opForm t) (now (a .entry)) lda)) 0 (λ p. at (now (b .entry)) (cell left ld p l)) (p0 + q)) m e)) (now (z .entry)) ⌝ }
 {
-    lines::take(left, x, b, ld, m, lines, p0, n);
-    clear(left, b, ld, m, lines, p0, n);
     if after {
         diagonal::diagonal(
             left,
@@ -125,9 +179,7 @@ pub fn block(
             lines,
             p0,
             n,
-            x,
-            y,
-            r,
+            z,
         );
         let lo = p0 + n;
         beside(
@@ -144,12 +196,12 @@ pub fn block(
             n,
             lo,
             m - lo,
-            y,
+            z,
             r,
         );
         return;
     }
-    beside(left, alpha, t, a, lda, b, ld, m, lines, p0, n, 0, p0, y, r);
+    beside(left, alpha, t, a, lda, b, ld, m, lines, p0, n, 0, p0, z, r);
     diagonal::diagonal(
         left,
         after,
@@ -164,8 +216,49 @@ pub fn block(
         lines,
         p0,
         n,
-        x,
-        y,
+        z,
+    );
+}
+
+// The n elements from p0 on of each line become their sums over all m elements.
+pub fn block(
+    left: bool,
+    after: bool,
+    diag: Diagonal,
+    alpha: f64,
+    t: Transpose,
+    a: &[f64],
+    lda: usize,
+    b: &mut [f64],
+    ld: usize,
+    m: usize,
+    lines: usize,
+    p0: usize,
+    n: usize,
+    r: usize,
+)
+    requires { ⌜ (0 < n) × (n ≤ 64) × (p0 + n ≤ m) × (0 < lines) × (lines ≤ 64) × (0 < r) × (r ≤ 64) ⌝ }
+    requires { ⌜ Room left ld m lines (length (now b)) ⌝ }
+    requires { ⌜ ((i j : ℕ) → i < m → j < m → indexOf (opForm t) lda i j < length (now a)) ⌝ }
+    ensures { λ _. ⌜ now (b .exit) ≡ update (grid left ld m lines (λ q l e. if within p0 n q then sumOf left after alpha (withDiagonal 1f diag (entryOf (opForm t) (now (a .entry)) lda)) m (λ p. at (now (b .entry)) (cell left ld p l)) q else e)) (now (b .entry)) ⌝ }
+{
+    let mut z = [0.0f64; 4096];
+    sums(
+        left,
+        after,
+        diag,
+        alpha,
+        t,
+        a,
+        lda,
+        b,
+        ld,
+        m,
+        lines,
+        p0,
+        n,
+        &mut z,
         r,
     );
+    lines::put(left, left, b, ld, m, lines, p0, n, &z);
 }

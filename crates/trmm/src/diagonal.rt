@@ -1,20 +1,21 @@
-// The terms of a diagonal block, one element after the other. Of op(A) no more is read than its triangle, and of its diagonal nothing where it is unit.
+// The terms of a diagonal block for the sums of its own elements. Here these stand across, element q of line l at q * 64 + l, so that one column holds an element of
+// all lines. Of op(A) no more is read than its triangle, and of its diagonal nothing where it is unit.
 ghost use mathlib.Core.Path.{_≡_};
 ghost use mathlib.Core.Bool.{true, false};
 ghost use Prim.Native.Nat.{ℕ, _+_, _*_, _≤_, _<_};
 ghost use lib.ListN.{length};
-ghost use Rattle.arrays.specs.Choice.{if_then_else_};
-ghost use Rattle.arrays.specs.Update.{update, region};
+ghost use Rattle.arrays.specs.Update.{update};
 ghost use Rattle.arrays.specs.Fold.{fold};
 ghost use Rattle.floats.specs.Array.{at};
-ghost use Rattle.floats.specs.Operations.{_⊕_, _⊗_, 1f};
+ghost use Rattle.floats.specs.Operations.{1f};
 ghost use Rattle.definitions.specs.Storage.{withDiagonal};
 ghost use Rattle.definitions.specs.declared.Transpose.{Transpose as TransposeOf};
 ghost use Rattle.packing.specs.Factor.{indexOf, entryOf};
 ghost use Rattle.forms.specs.Forms.{opForm};
-ghost use Rattle.lines.specs.Lines.{cell, grid, within, lineTerm, Room};
-ghost use Rattle.trmm.specs.Sum.{termFrom};
-use blocks::leaves;
+ghost use Rattle.lines.specs.Lines.{cell, grid, coefficient, Room};
+ghost use Rattle.trmm.specs.Sum.{has, heldTerms, termFrom, Pivots};
+use blocks::block;
+use blocks::pass;
 use definitions::Diagonal;
 use definitions::Transpose;
 
@@ -29,115 +30,81 @@ fn pivot(diag: Diagonal, a: &[f64], lda: usize, p: usize) -> f64
     }
 }
 
-// Side L: the term with d for the first element of each line; x holds the values.
-fn own_left(b: &mut [f64], ld: usize, lines: usize, alpha: f64, d: f64, x: &[f64])
-    requires { ⌜ (0 < ld) × (lines * ld < length (now b) + ld) × (lines ≤ 64) × (4096 ≤ length (now x)) ⌝ }
-    ensures { λ _. ⌜ now (b .exit) ≡ update (region ld 1 lines (λ i l e. e ⊕ (alpha ⊗ at (now (x .entry)) (l * 64)) ⊗ d)) (now (b .entry)) ⌝ }
+// The first of the block's elements whose term element j has,
+fn first_term(after: bool, j: usize) -> usize
+    ensures { λ r. ⌜ (after ≡ true → r ≡ j) × (after ≡ false → r ≡ 0) ⌝ }
 {
-    let mut l = 0;
-    while l < lines {
-        let to = l * ld;
-        b[to] = b[to] + (alpha * x[l * 64]) * d;
-        l += 1;
+    if after { j } else { 0 }
+}
+
+// and how many of its n elements they are.
+fn terms(after: bool, n: usize, j: usize) -> usize
+    requires { ⌜ (j < n) × (n ≤ 64) ⌝ }
+    ensures { λ r. ⌜ (after ≡ true → r + j ≡ n) × (after ≡ false → r ≡ j + 1) ⌝ }
+{
+    if after { n - j } else { j + 1 }
+}
+
+// The terms of n elements for these elements themselves, whose sums stand across in s; u and v hold the factors.
+fn walk(after: bool, s: &mut [f64], lines: usize, n: usize, u: &[f64], v: &[f64])
+    requires { ⌜ (n ≤ 64) × (lines ≤ 64) × (4096 ≤ length (now s)) × (4096 ≤ length (now u)) × (4096 ≤ length (now v)) ⌝ }
+    ensures { λ _. ⌜ now (s .exit) ≡ update (grid false 64 n lines (λ q l e. heldTerms after n (now (u .entry)) (now (v .entry)) q l e)) (now (s .entry)) ⌝ }
+{
+    let mut j = 0;
+    while j < n {
+        let lo = first_term(after, j);
+        let count = terms(after, n, j);
+        let to = j * 64;
+        let x = lo * 64;
+        let y = j * 64 + lo;
+        block::column(&mut s[to..], lines, count, &u[x..], &v[y..]);
+        j += 1;
     }
 }
 
-// The term with d for element p of each line; x holds the values.
-fn own_term(
-    left: bool,
-    b: &mut [f64],
-    ld: usize,
-    m: usize,
-    lines: usize,
-    alpha: f64,
-    d: f64,
-    p: usize,
-    x: &[f64],
-)
-    requires { ⌜ (p < m) × (0 < lines) × (lines ≤ 64) × (4096 ≤ length (now x)) ⌝ }
-    requires { ⌜ Room left ld m lines (length (now b)) ⌝ }
-    ensures { λ _. ⌜ now (b .exit) ≡ update (grid left ld m lines (λ q l e. if within p 1 q then lineTerm left alpha (λ _ _. d) q e p (at (now (x .entry)) (cell left 64 0 l)) else e)) (now (b .entry)) ⌝ }
+// The same where the sums stand in z by columns: they are turned across and back.
+fn walk_turned(after: bool, z: &mut [f64], lines: usize, n: usize, u: &[f64], v: &[f64])
+    requires { ⌜ (0 < n) × (n ≤ 64) × (0 < lines) × (lines ≤ 64) × (4096 ≤ length (now z)) × (4096 ≤ length (now u)) × (4096 ≤ length (now v)) ⌝ }
+    ensures { λ _. ⌜ now (z .exit) ≡ update (grid true 64 n lines (λ q l e. heldTerms after n (now (u .entry)) (now (v .entry)) q l e)) (now (z .entry)) ⌝ }
 {
-    if left {
-        own_left(&mut b[p..], ld, lines, alpha, d, x);
-        return;
+    let mut s = [0.0f64; 4096];
+    lines::take(true, false, &mut s, z, 64, n, lines, 0, n);
+    walk(after, &mut s, lines, n, u, v);
+    lines::put(true, false, z, 64, n, lines, 0, n, &s);
+}
+
+// The entries of op(A)'s diagonal from (p0, p0) on, n of them, to their places in v.
+fn pivots(diag: Diagonal, a: &[f64], lda: usize, p0: usize, n: usize, v: &mut [f64])
+    requires { ⌜ (n ≤ 64) × (p0 + n < 18446744073709551616) × (4096 ≤ length (now v)) × ((i : ℕ) → i < n → (p0 + i) * lda + (p0 + i) < length (now a)) ⌝ }
+    ensures { λ _. ⌜ Pivots diag (now (a .entry)) lda p0 n (now (v .entry)) (now (v .exit)) ⌝ }
+{
+    let mut i = 0;
+    while i < n {
+        v[i * 64 + i] = pivot(diag, a, lda, p0 + i);
+        i += 1;
     }
-    let to = p * ld;
-    let t = [alpha * d; 1];
-    leaves::axpy(&mut b[to..], lines, x, &t);
 }
 
-// The elements of the block, but for the i-th, that have the term of the i-th: the first of them,
-fn others_from(after: bool, p0: usize, i: usize) -> usize
-    requires { ⌜ p0 + i < 18446744073709551615 ⌝ }
-    ensures { λ r. ⌜ (after ≡ true → r ≡ p0) × (after ≡ false → r ≡ p0 + i + 1) ⌝ }
-{
-    if after { p0 } else { p0 + i + 1 }
-}
-
-// and how many they are.
-fn others(after: bool, n: usize, i: usize) -> usize
-    requires { ⌜ i < n ⌝ }
-    ensures { λ r. ⌜ (after ≡ true → r ≡ i) × (after ≡ false → r + i + 1 ≡ n) ⌝ }
-{
-    if after { i } else { n - i - 1 }
-}
-
-// The term of element i of the block for each element of the block that has it: x holds the values of the block, and y is a buffer.
-fn one_term(
+// The coefficients of the terms of the n elements from p0 on for these elements themselves, to v: row i is for element p0 + i.
+fn triangle(
     left: bool,
     after: bool,
     diag: Diagonal,
-    alpha: f64,
     t: Transpose,
     a: &[f64],
     lda: usize,
-    b: &mut [f64],
-    ld: usize,
-    m: usize,
-    lines: usize,
     p0: usize,
     n: usize,
-    i: usize,
-    x: &[f64],
-    y: &mut [f64],
-    r: usize,
+    v: &mut [f64],
 )
-    requires { ⌜ (i < n) × (n ≤ 64) × (p0 + n ≤ m) × (0 < lines) × (lines ≤ 64) × (0 < r) × (r ≤ 64) × (4096 ≤ length (now x)) × (4096 ≤ length (now y)) ⌝ }
-    requires { ⌜ Room left ld m lines (length (now b)) ⌝ }
-    requires { ⌜ ((i j : ℕ) → i < m → j < m → indexOf (opForm t) lda i j < length (now a)) ⌝ }
-    ensures { λ _. ⌜ (now (b .exit) ≡ update (grid left ld m lines (λ q l e. if within p0 n q then termFrom left after alpha (withDiagonal 1f diag (entryOf (opForm t) (now (a .entry)) lda)) p0 (λ k. at (now (x .entry)) (cell left 64 k l)) q e i else e)) (now (b .entry))) × (length (now (y .exit)) ≡ length (now (y .entry))) ⌝ }
+    requires { ⌜ (n ≤ 64) × (p0 + n < 18446744073709551616) × (4096 ≤ length (now v)) × ((i j : ℕ) → i < n → j < n → indexOf (opForm t) lda (p0 + i) (p0 + j) < length (now a)) ⌝ }
+    ensures { λ _. ⌜ (length (now (v .exit)) ≡ length (now (v .entry))) × ((i p : ℕ) → i < n → p < n → has after i p ≡ true → at (now (v .exit)) (i * 64 + p) ≡ coefficient left (withDiagonal 1f diag (entryOf (opForm t) (now (a .entry)) lda)) (p0 + i) (p0 + p)) ⌝ }
 {
-    let p = p0 + i;
-    lines::take(left, y, x, 64, n, lines, i, 1);
-    let d = pivot(diag, a, lda, p);
-    own_term(left, b, ld, m, lines, alpha, d, p, y);
-    let o = others_from(after, p0, i);
-    let h = others(after, n, i);
-    if h == 0 {
-        return;
-    }
-    lines::add_terms(
-        left,
-        false,
-        b,
-        ld,
-        m,
-        lines,
-        alpha,
-        t,
-        a,
-        lda,
-        p,
-        1,
-        o,
-        h,
-        y,
-        r,
-    );
+    lines::triangle::coefficients(left, after, false, t, a, lda, p0, n, v);
+    pivots(diag, a, lda, p0, n, v);
 }
 
-// All terms of the n elements from p0 on for these elements themselves, in order.
+// All terms of the n elements from p0 on for these elements themselves, whose sums are in z.
 pub fn diagonal(
     left: bool,
     after: bool,
@@ -146,42 +113,28 @@ pub fn diagonal(
     t: Transpose,
     a: &[f64],
     lda: usize,
-    b: &mut [f64],
+    b: &[f64],
     ld: usize,
     m: usize,
     lines: usize,
     p0: usize,
     n: usize,
-    x: &[f64],
-    y: &mut [f64],
-    r: usize,
+    z: &mut [f64],
 )
-    requires { ⌜ (0 < n) × (n ≤ 64) × (p0 + n ≤ m) × (0 < lines) × (lines ≤ 64) × (0 < r) × (r ≤ 64) × (4096 ≤ length (now x)) × (4096 ≤ length (now y)) ⌝ }
+    requires { ⌜ (0 < n) × (n ≤ 64) × (p0 + n ≤ m) × (0 < lines) × (lines ≤ 64) × (4096 ≤ length (now z)) ⌝ }
     requires { ⌜ Room left ld m lines (length (now b)) ⌝ }
     requires { ⌜ ((i j : ℕ) → i < m → j < m → indexOf (opForm t) lda i j < length (now a)) ⌝ }
-    ensures { λ _. ⌜ (now (b .exit) ≡ update (grid left ld m lines (λ q l e. if within p0 n q then fold (termFrom left after alpha (withDiagonal 1f diag (entryOf (opForm t) (now (a .entry)) lda)) p0 (λ k. at (now (x .entry)) (cell left 64 k l)) q) n e else e)) (now (b .entry))) × (length (now (y .exit)) ≡ length (now (y .entry))) ⌝ }
+    ensures { λ _. ⌜ now (z .exit) ≡ update (grid left 64 n lines (λ q l e. fold (termFrom left after alpha (withDiagonal 1f diag (entryOf (opForm t) (now (a .entry)) lda)) p0 (λ k. at (now (b .entry)) (cell left ld (p0 + k) l)) (p0 + q)) n e)) (now (z .entry)) ⌝ }
 {
-    let mut i = 0;
-    while i < n {
-        one_term(
-            left,
-            after,
-            diag,
-            alpha,
-            t,
-            a,
-            lda,
-            b,
-            ld,
-            m,
-            lines,
-            p0,
-            n,
-            i,
-            x,
-            y,
-            r,
-        );
-        i += 1;
+    let mut x = [0.0f64; 4096];
+    let mut v = [0.0f64; 4096];
+    lines::take(left, false, &mut x, b, ld, m, lines, p0, n);
+    triangle(left, after, diag, t, a, lda, p0, n, &mut v);
+    if left {
+        pass::scale(&mut x, 64, lines, n, alpha);
+        walk_turned(after, z, lines, n, &x, &v);
+        return;
     }
+    pass::scale(&mut v, 64, n, n, alpha);
+    walk(after, z, lines, n, &x, &v);
 }

@@ -1,20 +1,19 @@
 // TRMM: the update of one strip, in place. B goes by lines, columns for side L and rows for side R; the blocks of a line are taken in such an order that what a
 // block reads of the line is still as at entry.
 ghost use mathlib.Core.Path.{_≡_};
-ghost use mathlib.Core.Bool.{true, false, not};
+ghost use mathlib.Core.Bool.{true, false};
 ghost use mathlib.Core.List.{List};
 ghost use Prim.Native.Nat.{ℕ, _+_, _*_, _≤_, _<_};
 ghost use lib.ListN.{length};
 ghost use lib.Ieee.{Float};
 ghost use Rattle.arrays.specs.Update.{update};
 ghost use Rattle.floats.specs.Array.{at};
-ghost use Rattle.floats.specs.Operations.{1f};
+ghost use Rattle.floats.specs.Operations.{0f, 1f};
 ghost use Rattle.definitions.specs.Number.{isZero};
-ghost use Rattle.definitions.specs.Storage.{opTriangle, withDiagonal};
+ghost use Rattle.definitions.specs.Storage.{withDiagonal};
 ghost use Rattle.definitions.specs.Call.{bySide, extent};
-ghost use Rattle.definitions.specs.Element.{solvesUp, StripOf};
+ghost use Rattle.definitions.specs.Element.{StripOf};
 ghost use Rattle.definitions.specs.declared.Routine.the-variants.{Trmm};
-ghost use Rattle.definitions.specs.declared.Side.the-variants.{Left};
 ghost use Rattle.definitions.proofs.Fits.{Fits};
 ghost use Rattle.packing.specs.Factor.{indexOf, entryOf};
 ghost use Rattle.forms.specs.Forms.{opForm};
@@ -24,12 +23,12 @@ ghost use Rattle.trmm.specs.Sum.{sumOf, lineValue};
 pub mod block;
 pub mod diagonal;
 
+use blocks::pass;
 use definitions::Call;
 use definitions::Diagonal;
 use definitions::Scalar;
 use definitions::Side;
 use definitions::Transpose;
-use definitions::Triangle;
 use kernel::panels;
 
 // The first element of the next block of n, when k of m elements are done: from the first on if an element's terms lie after it, else from the last back.
@@ -40,7 +39,7 @@ fn next_block(after: bool, m: usize, k: usize, n: usize) -> usize
     if after { k } else { m - (k + n) }
 }
 
-// Each element of each line becomes the sum of its terms: block after block, with the buffers x and y.
+// Each element of each line becomes the sum of its terms: block after block.
 fn sum_lines(
     left: bool,
     after: bool,
@@ -53,11 +52,9 @@ fn sum_lines(
     ld: usize,
     m: usize,
     lines: usize,
-    x: &mut [f64],
-    y: &mut [f64],
     r: usize,
 )
-    requires { ⌜ (0 < m) × (0 < lines) × (lines ≤ 64) × (0 < r) × (r ≤ 64) × (4096 ≤ length (now x)) × (4096 ≤ length (now y)) ⌝ }
+    requires { ⌜ (0 < m) × (0 < lines) × (lines ≤ 64) × (0 < r) × (r ≤ 64) ⌝ }
     requires { ⌜ Room left ld m lines (length (now b)) ⌝ }
     requires { ⌜ ((i j : ℕ) → i < m → j < m → indexOf (opForm t) lda i j < length (now a)) ⌝ }
     ensures { λ _. ⌜ now (b .exit) ≡ update (grid left ld m lines (λ q l _. sumOf left after alpha (withDiagonal 1f diag (entryOf (opForm t) (now (a .entry)) lda)) m (λ p. at (now (b .entry)) (cell left ld p l)) q)) (now (b .entry)) ⌝ }
@@ -80,12 +77,23 @@ fn sum_lines(
             lines,
             p0,
             n,
-            x,
-            y,
             r,
         );
         k += n;
     }
+}
+
+// +0.0 in each element of each line.
+fn clear_lines(left: bool, b: &mut [f64], ld: usize, m: usize, lines: usize)
+    requires { ⌜ (0 < m) × (0 < lines) ⌝ }
+    requires { ⌜ Room left ld m lines (length (now b)) ⌝ }
+    ensures { λ _. ⌜ now (b .exit) ≡ update (grid left ld m lines (λ q l _. 0f)) (now (b .entry)) ⌝ }
+{
+    if left {
+        pass::clear(b, ld, m, lines);
+        return;
+    }
+    pass::clear(b, ld, lines, m);
 }
 
 // Each element of each line gets its value: +0.0 if alpha is zero, and A is not read then.
@@ -109,11 +117,9 @@ fn multiply_lines(
     ensures { λ _. ⌜ now (b .exit) ≡ update (grid left ld m lines (λ q l _. lineValue left after alpha (withDiagonal 1f diag (entryOf (opForm t) (now (a .entry)) lda)) m (λ p. at (now (b .entry)) (cell left ld p l)) q)) (now (b .entry)) ⌝ }
 {
     if alpha.is_zero() {
-        block::clear(left, b, ld, m, lines, 0, m);
+        clear_lines(left, b, ld, m, lines);
         return;
     }
-    let mut x = [0.0f64; 4096];
-    let mut y = [0.0f64; 4096];
     sum_lines(
         left,
         after,
@@ -126,26 +132,8 @@ fn multiply_lines(
         ld,
         m,
         lines,
-        &mut x,
-        &mut y,
         r,
     );
-}
-
-// op(A) is lower.
-fn lower(t: Transpose, uplo: Triangle) -> bool
-    ensures { λ r. ⌜ r ≡ solvesUp Left (opTriangle t uplo) ⌝ }
-{
-    match uplo {
-        Triangle::Lower => match t {
-            Transpose::No => true,
-            Transpose::Yes => false,
-        },
-        Triangle::Upper => match t {
-            Transpose::No => false,
-            Transpose::Yes => true,
-        },
-    }
 }
 
 // TRMM's strip of `lines` columns (side L) or rows (side R) from the one with number `from` on: b is the part of B that starts there, and blocks are of r elements.
@@ -163,7 +151,7 @@ pub fn trmm_strip(call: Call, a: &[f64], b: &mut [f64], from: usize, lines: usiz
     let n = call.n as usize;
     let lda = call.lda as usize;
     let ldb = call.ldb as usize;
-    let low = lower(t, uplo);
+    let low = forms::op_lower(t, uplo);
     match side {
         Side::Left => multiply_lines(true, !low, diag, alpha, t, a, lda, b, ldb, m, lines, r),
         Side::Right => multiply_lines(false, low, diag, alpha, t, a, lda, b, ldb, n, lines, r),

@@ -1,5 +1,8 @@
 pub mod OrderLaws
 pub mod StateLaws
+pub mod AcrossLaws
+pub mod FactorLaws
+pub mod BlockLaws
 pub mod StepLaws
 pub mod WayLaws
 pub mod LineLaws

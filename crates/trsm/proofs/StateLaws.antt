@@ -1,16 +1,16 @@
 -- Laws of what is solved so far: the values of one line, and the steps that bring all lines from one state to another.
 -- Assumes nothing.
 use mathlib.Core.Bool.{Bool}
-use mathlib.Core.Path.{_≡_, sym, ap, subst, _∙_}
+use mathlib.Core.Path.{_≡_, refl, sym, ap, _∙_}
 use mathlib.Core.Logic.{⊎-elim, _⊎_, inl, inr}
 use mathlib.Core.List.{List}
-use Prim.Native.Nat.{ℕ, _+_, _<_, _≤_}
+use Prim.Native.Nat.{ℕ, zero, suc, _+_, _-_, _<_, _≤_}
 use native.Mathlib.Omega.{arith}
 use lib.ListN.{length, getD}
 use borrow.Author.Tests.{lt-ltb, le-ltb}
 use Rattle.arrays.specs.Choice.{if_then_else_}
 use Rattle.arrays.specs.Update.{update}
-use Rattle.arrays.specs.Fold.{fold, solved}
+use Rattle.arrays.specs.Fold.{fold}
 use Rattle.arrays.proofs.UpdateLaws.{lt-or-ge}
 use Rattle.arrays.proofs.FoldLaws.{fold-none, fold-split, fold-same, solved-at}
 use Rattle.kernel.specs.Product.{turn}
@@ -33,22 +33,22 @@ Same k k′ q = (k ≡ k′) ⊎ ((q < k) × (q < k′))
 
 module _ {A : Type 0} (d : A) (term : ℕ → A → ℕ → A → A) (finish : ℕ → A → A) where
   module _ (start : ℕ → A) where
-    value : ℕ → A
+    abbrev value : ℕ → A
     value = solution d term finish start
 
-    state : ℕ → ℕ → A
+    abbrev state : ℕ → ℕ → A
     state = stateOf d term finish start
 
-    value-is : (q : ℕ) → value q ≡ finish q (sumAfter d term finish start q q)
-    unfolding value solution next sumAfter
+    pub value-is : (q : ℕ) → value q ≡ finish q (sumAfter d term finish start q q)
+    unfolding solution next sumAfter
     value-is q = ap (finish q) (fold-same _ _ q (start q) (λ p b e. ap (term q e p) (solved-at d (next d term finish start) p q b)))
 
     state-done : (k q : ℕ) → q < k → state k q ≡ value q
-    unfolding state stateOf value
+    unfolding stateOf
     state-done k q h = rw (lt-ltb q k h)
 
     state-open : (k q : ℕ) → k ≤ q → state k q ≡ sumAfter d term finish start k q
-    unfolding state stateOf
+    unfolding stateOf
     state-open k q h = rw (le-ltb q k h)
 
     state-start : (q : ℕ) → state 0 q ≡ start q
@@ -62,12 +62,29 @@ module _ {A : Type 0} (d : A) (term : ℕ → A → ℕ → A → A) (finish : �
     -- n terms more
     state-more : (p n q : ℕ) (x : ℕ → A) → p + n ≤ q → ((t : ℕ) → t < n → x t ≡ value (p + t))
         → fold (λ e t. term q e (p + t) (x t)) n (state p q) ≡ state (p + n) q
-    unfolding value sumAfter
+    unfolding sumAfter
     state-more p n q x h e =
         ap (λ (y : A). fold (λ e t. term q e (p + t) (x t)) n y) (state-open p q (omega arith))
         ∙ fold-same _ _ n _ (λ t b y. ap (term q y (p + t)) (e t b))
         ∙ sym (fold-split (λ e p. term q e p (solution d term finish start p)) p n (start q))
         ∙ sym (state-open (p + n) q h)
+
+    -- value p + q, from the sum that has p terms
+    pub value-from : (p q : ℕ) → value (p + q) ≡ finish (p + q) (fold (λ e t. term (p + q) e (p + t) (value (p + t))) q (state p (p + q)))
+    value-from p q =
+        sym
+        (ap (finish (p + q)) (state-more p q (p + q) (λ t. value (p + t)) (omega arith) (λ t b. refl))
+        ∙ state-finish (p + q) (p + q + 1) (omega arith)
+        ∙ state-done (p + q + 1) (p + q) (omega arith))
+
+    -- values that follow from those before them are the solution
+    pub value-only : (x : ℕ → A) (n : ℕ) → ((q : ℕ) → q < n → x q ≡ finish q (fold (λ e p. term q e p (x p)) q (start q))) → (q : ℕ) → q < n → x q ≡ value q
+    unfolding sumAfter
+    value-only x zero h q hq = let z : ⊥ = omega arith in absurd z
+    value-only x (suc n) h q hq =
+        h q hq
+        ∙ ap (finish q) (fold-same _ _ q (start q) (λ p b e. ap (term q e p) (value-only x n (λ r hr. h r (omega arith)) p (omega arith))))
+        ∙ sym (value-is q)
 
     state-same : (k k′ q : ℕ) → Same k k′ q → state k q ≡ state k′ q
     state-same k k′ q h = ⊎-elim (λ e. ap (λ (n : ℕ). state n q) e) (λ b. state-done k q (b .0) ∙ sym (state-done k′ q (b .1))) h
@@ -80,7 +97,7 @@ module _ {A : Type 0} (d : A) (term : ℕ → A → ℕ → A → A) (finish : �
 
     module _ (pos : 0 < ld) where
       solving-same : (k k′ : ℕ → ℕ) (b : List A) → ((q : ℕ) → q < m → Same (k q) (k′ q) q) → Solving k b → Solving k′ b
-      unfolding solving state
+      unfolding solving
       solving-same k k′ b h e = e ∙ ordered-same left down ld m lines _ _ b₀ pos (λ q l hq hl x. state-same (start l) (k q) (k′ q) q (h q hq))
 
       -- a block within those that have q terms
@@ -107,7 +124,7 @@ module _ {A : Type 0} (d : A) (term : ℕ → A → ℕ → A → A) (finish : �
           → Solving (front i (p + n) (front to p k)) b
           → c ≡ update (ordered left down ld m lines (λ q l x. if within i h q then fold (λ e t. term q e (p + t) (v t l)) n x else x)) b
           → Solving (front (i + h) (p + n) (front to p k)) c
-      unfolding solving state value
+      unfolding solving
       rest-more p n i h to k v b c hp ht hv eb ec =
           ordered-then left down ld m lines _ _ _ b₀ b c pos eb ec
           (λ q l hq hl x.
@@ -120,29 +137,29 @@ module _ {A : Type 0} (d : A) (term : ℕ → A → ℕ → A → A) (finish : �
           (λ up.
           ap (λ (j : ℕ). stateOf d term finish (start l) j q) (front-out i (p + n) (front to p k) q (omega arith) ∙ sym (front-out (i + h) (p + n) (front to p k) q up))))
 
-      -- the end of the sum of unknown q
-      pub one-ended : (q : ℕ) (k : ℕ → ℕ) (b c : List A) → Solving (front (q + 1) q k) b
-          → c ≡ update (ordered left down ld m lines (λ x l y. if within q 1 x then finish q y else y)) b
-          → Solving (front (q + 1) (q + 1) k) c
-      unfolding solving state
-      one-ended q k b c eb ec =
+      -- the unknowns from the p-th on, n of them, whose sums had p terms and which now have their values
+      pub block-ended : (p n : ℕ) (k : ℕ → ℕ) (v : ℕ → ℕ → A) (b c : List A)
+          → ((t l : ℕ) → t < n → l < lines → v t l ≡ solution d term finish (start l) (p + t))
+          → Solving (front (p + n) p k) b
+          → c ≡ update (ordered left down ld m lines (λ q l x. if within p n q then v (q - p) l else x)) b
+          → Solving (front (p + n) (p + n) k) c
+      unfolding solving
+      block-ended p n k v b c hv eb ec =
           ordered-then left down ld m lines _ _ _ b₀ b c pos eb ec
-          (λ x l hx hl y.
-          by-within q 1 x _ _ _
-          (λ lo hi.
-          let e : q ≡ x = omega arith in
-          subst (λ (x : ℕ). finish q (stateOf d term finish (start l) (front (q + 1) q k x) x) ≡ stateOf d term finish (start l) (front (q + 1) (q + 1) k x) x) e
-          (ap (λ (j : ℕ). finish q (stateOf d term finish (start l) j q)) (front-in (q + 1) q k q (omega arith))
-          ∙ state-finish (start l) q (q + 1) (omega arith)
-          ∙ ap (λ (j : ℕ). stateOf d term finish (start l) j q) (sym (front-in (q + 1) (q + 1) k q (omega arith)))))
+          (λ q l hq hl x.
+          by-within p n q _ _ _
+          (λ lo up.
+          hv (q - p) l (omega arith) hl
+          ∙ ap (solution d term finish (start l)) (omega arith)
+          ∙ sym (state-done (start l) (front (p + n) (p + n) k q) q (omega (arith, front-in (p + n) (p + n) k q up))))
           (λ lo.
-          state-same (start l) (front (q + 1) q k x) (front (q + 1) (q + 1) k x) x
-          (inr (omega (arith, front-in (q + 1) q k x (omega arith)), omega (arith, front-in (q + 1) (q + 1) k x (omega arith)))))
-          (λ hi. ap (λ (j : ℕ). stateOf d term finish (start l) j x) (front-out (q + 1) q k x hi ∙ sym (front-out (q + 1) (q + 1) k x hi))))
+          state-same (start l) (front (p + n) p k q) (front (p + n) (p + n) k q) q
+          (inr (omega (arith, front-in (p + n) p k q (omega arith)), omega (arith, front-in (p + n) (p + n) k q (omega arith)))))
+          (λ up. ap (λ (j : ℕ). stateOf d term finish (start l) j q) (front-out (p + n) p k q up ∙ sym (front-out (p + n) (p + n) k q up))))
 
       pub all-started : (f : ℕ → ℕ → A → A) (k : ℕ → ℕ) (c : List A) → c ≡ update (ordered left down ld m lines f) b₀
           → ((q l : ℕ) → q < m → l < lines → f q l (getD b₀ (cell left ld (turn down m q) l) d) ≡ start l q) → Solving (front m 0 k) c
-      unfolding solving state
+      unfolding solving
       all-started f k c ec h =
           ec
           ∙ ordered-same-at left down ld m lines d _ _ b₀
@@ -150,13 +167,13 @@ module _ {A : Type 0} (d : A) (term : ℕ → A → ℕ → A → A) (finish : �
 
       pub all-solved : (k : ℕ → ℕ) (b : List A) → Solving (front m m k) b
           → b ≡ update (ordered left down ld m lines (λ q l _. solution d term finish (start l) q)) b₀
-      unfolding solving state value
+      unfolding solving
       all-solved k b eb =
           eb ∙ ordered-same left down ld m lines _ _ b₀ pos (λ q l hq hl x. state-done (start l) (front m m k q) q (omega (arith, front-in m m k q hq)))
 
     -- a value that is solved
     pub held : (e hi : ℕ) (k : ℕ → ℕ) (b : List A) (q l : ℕ) → Room left ld m lines (length b₀) → q < m → l < lines → q < e → q < hi
         → Solving (front e hi k) b → getD b (cell left ld (turn down m q) l) d ≡ solution d term finish (start l) q
-    unfolding solving state value
+    unfolding solving
     held e hi k b q l room hq hl he hh eb =
         ordered-at left down ld m lines d _ b₀ b q l room hq hl eb ∙ state-done (start l) (front e hi k q) q (omega (arith, front-in e hi k q he))

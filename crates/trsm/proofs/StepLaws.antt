@@ -3,7 +3,7 @@
 use mathlib.Core.Bool.{Bool, true, false}
 use mathlib.Core.Path.{_≡_, refl, sym, ap, ap₂, subst, _∙_}
 use mathlib.Core.List.{List}
-use Prim.Native.Nat.{ℕ, _+_, _*_, _<_, _≤_}
+use Prim.Native.Nat.{ℕ, _+_, _<_, _≤_}
 use native.Mathlib.Omega.{arith}
 use lib.ListN.{length}
 use lib.Ieee.{Float, nan, binary64, neg, ofBits}
@@ -12,33 +12,19 @@ use Rattle.arrays.specs.Update.{update}
 use Rattle.arrays.specs.Fold.{fold}
 use Rattle.arrays.proofs.UpdateLaws.{length-update}
 use Rattle.arrays.proofs.FoldLaws.{fold-same}
-use Rattle.arrays.proofs.Tests.{if-same}
 use Rattle.floats.specs.Array.{at}
-use Rattle.floats.specs.Operations.{_⊘_, −1f}
-use Rattle.definitions.specs.Element.{divided}
+use Rattle.floats.specs.Operations.{−1f}
 use Rattle.definitions.specs.declared.Diagonal.{Diagonal}
-use Rattle.definitions.specs.declared.Diagonal.the-variants.{Unit, Nonunit}
 use Rattle.definitions.specs.declared.Transpose.{Transpose}
-use Rattle.definitions.specs.declared.Transpose.the-variants.{No, Yes}
-use Rattle.packing.specs.Factor.{Matrix, indexOf, entryOf}
+use Rattle.packing.specs.Factor.{Matrix, indexOf}
 use Rattle.forms.specs.Forms.{opForm}
 use Rattle.kernel.specs.Product.{turn}
 use Rattle.kernel.proofs.PanelLaws.{turn-below}
 use Rattle.lines.specs.Lines.{cell, grid, within, lineTerm, Room}
-use Rattle.lines.proofs.GridLaws.{grid-same, grid-keep, grid-at}
-use Rattle.trsm.specs.Solve.{first, ordered, solution, front, solveTerm, solveEnd, Step}
-use Rattle.trsm.proofs.OrderLaws.{turn-turn, turn-first, first-one, within-turn}
-use Rattle.trsm.proofs.StateLaws.{narrower, wider, rest-more, one-ended, held}
-
--- the diagonal of op(A) is A's
-pub diagonal-index : (t : Transpose) (ld i : ℕ) → indexOf (opForm t) ld i i ≡ i * ld + i
-unfolding indexOf
-diagonal-index No ld i = refl
-diagonal-index Yes ld i = refl
-
-pub diagonal-entry : (t : Transpose) (a : List Float) (ld i : ℕ) → at a (i * ld + i) ≡ entryOf (opForm t) a ld i i
-unfolding entryOf
-diagonal-entry t a ld i = ap (at a) (sym (diagonal-index t ld i))
+use Rattle.lines.proofs.GridLaws.{grid-same, grid-at}
+use Rattle.trsm.specs.Solve.{first, ordered, front, solveTerm, solveEnd, Step}
+use Rattle.trsm.proofs.OrderLaws.{turn-turn, turn-first, within-turn}
+use Rattle.trsm.proofs.StateLaws.{narrower, wider, rest-more, held}
 
 pub minus-one : neg (ofBits binary64 0x3ff0_0000_0000_0000) ≡ −1f
 unfolding neg ofBits
@@ -56,34 +42,6 @@ buffer-room true n lines len a b c = (a, omega arith)
 buffer-room false n lines len a b c = (b, omega arith)
 
 module _ (left down : Bool) (ld m lines : ℕ) (diag : Diagonal) (T : Matrix) (pos : 0 < ld) where
-  -- ---- the end of the sum of unknown p
-
-  -- its element is changed by f, which is the end of its sum
-  ended : (f : Float → Float) (p : ℕ) (b c : List Float) → p < m → ((e : Float) → f e ≡ solveEnd diag down m T p e)
-      → c ≡ update (grid left ld m lines (λ q l e. if within (turn down m p) 1 q then f e else e)) b
-      → Step left down ld m lines diag T (front (p + 1) p) (front (p + 1) (p + 1)) b c
-  unfolding ordered
-  ended f p b c hp same ec start k b₀ eb =
-      one-ended nan (solveTerm left down m T) (solveEnd diag down m T) left down ld m lines start b₀ pos p k b c eb
-      (ec ∙ grid-same left ld m lines _ _ b pos
-      (λ i l hi hl e.
-      ap₂ (λ (t : Bool) (y : Float). if t then y else e)
-      (ap (λ (x : ℕ). within x 1 i) (sym (first-one down m p)) ∙ within-turn down m p 1 i (omega arith) hi) (same e)))
-
-  pub unit-ended : (p : ℕ) (b : List Float) → p < m → diag ≡ Unit → Step left down ld m lines diag T (front (p + 1) p) (front (p + 1) (p + 1)) b b
-  unfolding solveEnd divided
-  unit-ended p b hp e =
-      ended (λ x. x) p b b hp (λ x. rw e) (grid-keep left ld m lines _ b (λ q l hq hl x. if-same (within (turn down m p) 1 q) x))
-
-  pub divided-by : (p i : ℕ) (d : Float) (b c : List Float) → p < m → diag ≡ Nonunit → i ≡ first down m p 1 → d ≡ T i i
-      → c ≡ update (grid left ld m lines (λ q l e. if within i 1 q then e ⊘ d else e)) b
-      → Step left down ld m lines diag T (front (p + 1) p) (front (p + 1) (p + 1)) b c
-  unfolding solveEnd divided
-  divided-by p i d b c hp e ei ed ec =
-      let ix : i ≡ turn down m p = ei ∙ first-one down m p in
-      ended (λ x. x ⊘ d) p b c hp (λ x. rw e (ap (λ (y : Float). x ⊘ y) (ed ∙ ap (λ (y : ℕ). T y y) ix)))
-      (ec ∙ ap (λ (y : ℕ). update (grid left ld m lines (λ q l e. if within y 1 q then e ⊘ d else e)) b) ix)
-
   -- ---- terms
 
   -- the terms of the unknowns from the p-th on, n of them, whose values x holds, in the sums of those from the i-th on, h of them

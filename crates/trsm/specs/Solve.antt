@@ -9,21 +9,24 @@
 --     front       hi for the unknowns below e, and k for the others
 --     solveTerm   a term of TRSM; T is op(A) as A is stored
 --     solveEnd    the end of a sum of TRSM: the division
---     isUpper     the triangle is the upper one
+--     valueFactor, matrixFactor   the two factors of a term: -1.0 is with the value of the unknown for side L, and with the entry of op(A) for side R
+--     blockValue  the value of unknown q of a diagonal block T of order n; s is what the sums of a line start with, by element
+--     packedTerm, packedValue   a term and a value of such a block by factors: row i of v has those of the entries for element i, in the order of solving, and D has the diagonal
 --     goesDown    solving goes from the last index down, if A's triangle is the one given
 --     lineValue   the value of element i of a line; b is the line as it was
 --     Step        what a part of the solution does: whatever the sums started with, the unknowns come from one state to another
 use mathlib.Core.Path.{_≡_}
 use mathlib.Core.Bool.{Bool, true, false, not}
 use mathlib.Core.List.{List}
-use Prim.Native.Nat.{ℕ, _+_, _-_}
+use Prim.Native.Nat.{ℕ, _+_, _-_, _*_}
 use lib.ListN.{getD}
 use lib.Dec.{ltb}
 use lib.Ieee.{Float, nan}
 use Rattle.arrays.specs.Choice.{if_then_else_}
 use Rattle.arrays.specs.Update.{update}
 use Rattle.arrays.specs.Fold.{fold, solved}
-use Rattle.floats.specs.Operations.{_⊗_, 0f, −1f}
+use Rattle.floats.specs.Array.{at}
+use Rattle.floats.specs.Operations.{_⊕_, _⊗_, 0f, −1f}
 use Rattle.definitions.specs.Number.{isZero, factor}
 use Rattle.definitions.specs.declared.Scalar.{Scalar}
 use Rattle.definitions.specs.Storage.{opTriangle}
@@ -31,7 +34,6 @@ use Rattle.definitions.specs.Element.{divided, solvesUp}
 use Rattle.definitions.specs.declared.Side.{Side}
 use Rattle.definitions.specs.declared.Transpose.{Transpose}
 use Rattle.definitions.specs.declared.Triangle.{Triangle}
-use Rattle.definitions.specs.declared.Triangle.the-variants.{Lower, Upper}
 use Rattle.definitions.specs.declared.Diagonal.{Diagonal}
 use Rattle.packing.specs.Factor.{Matrix}
 use Rattle.kernel.specs.Product.{turn}
@@ -75,9 +77,22 @@ solveTerm left down m T q e p x = lineTerm left −1f T (turn down m q) e (turn 
 unfoldable pub solveEnd : Diagonal → Bool → ℕ → Matrix → ℕ → Float → Float
 solveEnd diag down m T q e = divided diag e (T (turn down m q) (turn down m q))
 
-unfoldable pub isUpper : Triangle → Bool
-isUpper Lower = false
-isUpper Upper = true
+unfoldable pub valueFactor : Bool → Float → Float
+valueFactor true x = −1f ⊗ x
+valueFactor false x = x
+
+unfoldable pub matrixFactor : Bool → Float → Float
+matrixFactor true y = y
+matrixFactor false y = −1f ⊗ y
+
+unfoldable pub packedTerm : Bool → Bool → ℕ → List Float → ℕ → Float → ℕ → Float → Float
+packedTerm left down n v q e p x = e ⊕ at v (turn down n q * 64 + p) ⊗ valueFactor left x
+
+unfoldable pub blockValue : Bool → Bool → ℕ → Diagonal → Matrix → (ℕ → Float) → ℕ → Float
+blockValue left down n diag T s q = solution nan (solveTerm left down n T) (solveEnd diag down n T) (λ q. s (turn down n q)) q
+
+unfoldable pub packedValue : Bool → Bool → ℕ → Diagonal → Matrix → List Float → (ℕ → Float) → ℕ → Float
+packedValue left down n diag D v s q = solution nan (packedTerm left down n v) (solveEnd diag down n D) (λ q. s (turn down n q)) q
 
 unfoldable pub goesDown : Side → Transpose → Triangle → Bool
 goesDown side t uplo = not (solvesUp side (opTriangle t uplo))

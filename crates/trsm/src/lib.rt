@@ -6,27 +6,31 @@ ghost use Prim.Native.Nat.{ℕ, _+_, _*_, _≤_, _<_};
 ghost use lib.ListN.{length};
 ghost use lib.Ieee.{Float};
 ghost use Rattle.arrays.specs.Choice.{if_then_else_};
-ghost use Rattle.arrays.specs.Update.{update};
+ghost use Rattle.arrays.specs.Update.{update, below};
 ghost use Rattle.floats.specs.Array.{at};
-ghost use Rattle.floats.specs.Operations.{_⊘_};
 ghost use Rattle.definitions.specs.Number.{isZero};
 ghost use Rattle.definitions.specs.Call.{bySide, extent};
-ghost use Rattle.definitions.specs.Element.{StripOf};
+ghost use Rattle.definitions.specs.Element.{divided, StripOf};
 ghost use Rattle.definitions.specs.declared.Diagonal.{Diagonal as DiagonalOf};
 ghost use Rattle.definitions.specs.declared.Routine.the-variants.{Trsm};
 ghost use Rattle.definitions.proofs.Fits.{Fits};
 ghost use Rattle.packing.specs.Factor.{indexOf, entryOf};
+ghost use Rattle.packing.specs.declared.Form.the-variants.{Plain};
+ghost use Rattle.blocks.specs.Terms.{packed};
+ghost use Rattle.kernel.specs.Product.{turn};
 ghost use Rattle.forms.specs.Forms.{opForm};
-ghost use Rattle.lines.specs.Lines.{cell, grid, within, Room};
-ghost use Rattle.trsm.specs.Solve.{first, front, isUpper, goesDown, lineValue, Step};
+ghost use Rattle.lines.specs.Lines.{cell, grid, coefficient, Room};
+ghost use Rattle.trsm.specs.Solve.{first, ordered, front, valueFactor, matrixFactor, blockValue, packedValue, lineValue, Step};
+use blocks::block;
 use blocks::pass;
 use definitions::Call;
 use definitions::Diagonal;
 use definitions::Scalar;
 use definitions::Side;
 use definitions::Transpose;
-use definitions::Triangle;
 use kernel::panels;
+use lines::triangle;
+use packing::pack;
 
 // The least index of the unknowns from the p-th on, n of them.
 fn least(down: bool, m: usize, p: usize, n: usize) -> usize
@@ -36,49 +40,6 @@ fn least(down: bool, m: usize, p: usize, n: usize) -> usize
     if down { m - (p + n) } else { p }
 }
 
-// Element i of each line divided by d.
-fn quotient(left: bool, b: &mut [f64], ld: usize, m: usize, lines: usize, i: usize, d: f64)
-    requires { ⌜ (i < m) × (0 < lines) ⌝ }
-    requires { ⌜ Room left ld m lines (length (now b)) ⌝ }
-    ensures { λ _. ⌜ now (b .exit) ≡ update (grid left ld m lines (λ q l e. if within i 1 q then e ⊘ d else e)) (now (b .entry)) ⌝ }
-{
-    if left {
-        pass::divide(&mut b[i..], ld, 1, lines, d);
-        return;
-    }
-    let from = i * ld;
-    pass::divide(&mut b[from..], ld, lines, 1, d);
-}
-
-// The p-th unknown of each line divided by the diagonal element, unless the diagonal is unit.
-fn divide(
-    left: bool,
-    down: bool,
-    diag: Diagonal,
-    b: &mut [f64],
-    ld: usize,
-    m: usize,
-    lines: usize,
-    t: Transpose,
-    a: &[f64],
-    lda: usize,
-    p: usize,
-)
-    requires { ⌜ (p < m) × (0 < lines) ⌝ }
-    requires { ⌜ Room left ld m lines (length (now b)) ⌝ }
-    requires { ⌜ ((i j : ℕ) → i < m → j < m → indexOf (opForm t) lda i j < length (now a)) ⌝ }
-    ensures { λ _. ⌜ Step left down ld m lines diag (entryOf (opForm t) (now (a .entry)) lda) (front (p + 1) p) (front (p + 1) (p + 1)) (now (b .entry)) (now (b .exit)) ⌝ }
-{
-    match diag {
-        Diagonal::Unit => {}
-        Diagonal::Nonunit => {
-            let i = least(down, m, p, 1);
-            let k = i * lda + i;
-            quotient(left, b, ld, m, lines, i, a[k]);
-        }
-    }
-}
-
 // How many sums take terms at a time: all of them for side L, at most 64 for side R.
 fn reach(left: bool, m: usize) -> usize
     ensures { λ r. ⌜ (left ≡ false → r ≤ 64) × ((0 < m) → 0 < r) ⌝ }
@@ -86,8 +47,8 @@ fn reach(left: bool, m: usize) -> usize
     if left { m } else { 64 }
 }
 
-// The terms of the unknowns from the p-th on, n of them, in the sums of those after them and below the to-th.
-fn update_to(
+// The terms of the unknowns from the p-th on, n of them, in the sums of all after them.
+fn update_rest(
     left: bool,
     down: bool,
     b: &mut [f64],
@@ -99,25 +60,25 @@ fn update_to(
     lda: usize,
     p: usize,
     n: usize,
-    to: usize,
-    x: &mut [f64],
     r: usize,
-    u: &mut [f64],
-    v: &mut [f64],
 )
-    requires { ⌜ (0 < n) × (n ≤ 64) × (p + n ≤ to) × (to ≤ m) × (0 < lines) × (lines ≤ 64) × (0 < r) × (r ≤ 64) × (4096 ≤ length (now x)) × (4096 ≤ length (now u)) × (4096 ≤ length (now v)) ⌝ }
+    requires { ⌜ (0 < n) × (n ≤ 64) × (p + n ≤ m) × (0 < lines) × (lines ≤ 64) × (0 < r) × (r ≤ 64) ⌝ }
     requires { ⌜ Room left ld m lines (length (now b)) ⌝ }
     requires { ⌜ ((i j : ℕ) → i < m → j < m → indexOf (opForm t) lda i j < length (now a)) ⌝ }
-    ensures { λ _. ⌜ ((diag : DiagonalOf) → Step left down ld m lines diag (entryOf (opForm t) (now (a .entry)) lda) (λ k. front (p + n) (p + n) (front to p k)) (front to (p + n)) (now (b .entry)) (now (b .exit))) ⌝ }
+    ensures { λ _. ⌜ ((diag : DiagonalOf) → Step left down ld m lines diag (entryOf (opForm t) (now (a .entry)) lda) (λ k. front (p + n) (p + n) (front m p k)) (front m (p + n)) (now (b .entry)) (now (b .exit))) ⌝ }
 {
-    let w = reach(left, m);
-    let x0 = least(down, m, p, n);
-    lines::take(left, x, b, ld, m, lines, x0, n);
     let mut i = p + n;
-    while i < to {
-        let h = panels::smaller(w, to - i);
+    if i == m {
+        return;
+    }
+    let w = reach(left, m);
+    let mut x = [0.0f64; 4096];
+    let x0 = least(down, m, p, n);
+    lines::take(left, left, &mut x, b, ld, m, lines, x0, n);
+    while i < m {
+        let h = panels::smaller(w, m - i);
         let y = least(down, m, i, h);
-        lines::add_terms_with(
+        lines::add_terms(
             left,
             down,
             b,
@@ -132,48 +93,136 @@ fn update_to(
             n,
             y,
             h,
-            x,
+            &x,
             r,
-            u,
-            v,
         );
         i += h;
     }
 }
 
-// The unknowns from the p-th on and below the to-th, one after the other.
-fn solve_few(
+// The entries of op(A) as factors of a diagonal block's terms, times -1.0 for side R: row i of v has those of element x0 + i, in the order of solving.
+fn matrix_factors(
+    left: bool,
+    down: bool,
+    t: Transpose,
+    a: &[f64],
+    lda: usize,
+    x0: usize,
+    n: usize,
+    v: &mut [f64],
+)
+    requires { ⌜ (n ≤ 64) × (x0 + n < 18446744073709551616) × (4096 ≤ length (now v)) × ((i j : ℕ) → i < n → j < n → indexOf (opForm t) lda (x0 + i) (x0 + j) < length (now a)) ⌝ }
+    ensures { λ _. ⌜ ((q s : ℕ) → s < q → q < n → at (now (v .exit)) (turn down n q * 64 + s) ≡ matrixFactor left (coefficient left (entryOf (opForm t) (now (a .entry)) lda) (x0 + turn down n q) (x0 + turn down n s))) ⌝ }
+{
+    triangle::coefficients(left, down, down, t, a, lda, x0, n, v);
+    if left {
+        return;
+    }
+    pass::scale(v, 64, n, n, -1.0);
+}
+
+// One unknown of all lines: the terms of the j before it, and then the division by a[k], unless the diagonal is unit.
+fn solve_unknown(
+    diag: Diagonal,
+    s: &mut [f64],
+    lines: usize,
+    j: usize,
+    u: &[f64],
+    v: &[f64],
+    a: &[f64],
+    k: usize,
+)
+    requires { ⌜ (lines ≤ length (now s)) × (lines ≤ 64) × (j * 64 + lines ≤ length (now u) + 64) × (j ≤ length (now v)) × (k < length (now a)) ⌝ }
+    ensures { λ _. ⌜ now (s .exit) ≡ update (below lines (λ l e. divided diag (packed j (now (u .entry)) (now (v .entry)) l 0 e) (at (now (a .entry)) k))) (now (s .entry)) ⌝ }
+{
+    block::column(s, lines, j, u, v);
+    match diag {
+        Diagonal::Unit => {}
+        Diagonal::Nonunit => pass::divide_column(s, lines, a[k]),
+    }
+}
+
+// The values of an unknown as factors of its terms, times -1.0 for side L.
+fn value_factors(left: bool, u: &mut [f64], lines: usize, s: &[f64])
+    requires { ⌜ (lines ≤ length (now u)) × (lines ≤ length (now s)) ⌝ }
+    ensures { λ _. ⌜ now (u .exit) ≡ update (below lines (λ l _. valueFactor left (at (now (s .entry)) l))) (now (u .entry)) ⌝ }
+{
+    pack::copy(u, lines, s);
+    if left {
+        pass::scale_column(u, lines, -1.0);
+    }
+}
+
+// The n unknowns of the diagonal block that starts at a[0], one after the other. Lines stand across in s, element i of line l at i * ld + l; v has the factors of the entries, and u takes those of
+// the unknowns.
+fn solve_unknowns(
     left: bool,
     down: bool,
     diag: Diagonal,
-    b: &mut [f64],
+    s: &mut [f64],
     ld: usize,
-    m: usize,
+    lines: usize,
+    n: usize,
+    a: &[f64],
+    lda: usize,
+    u: &mut [f64],
+    v: &[f64],
+)
+    requires { ⌜ (n ≤ 64) × (0 < lines) × (lines ≤ 64) × (4096 ≤ length (now u)) × (4096 ≤ length (now v)) × ((i : ℕ) → i < n → i * lda + i < length (now a)) ⌝ }
+    requires { ⌜ Room false ld n lines (length (now s)) ⌝ }
+    ensures { λ _. ⌜ now (s .exit) ≡ update (ordered false down ld n lines (λ q l _. packedValue left down n diag (entryOf Plain (now (a .entry)) lda) (now (v .entry)) (λ i. at (now (s .entry)) (cell false ld i l)) q)) (now (s .entry)) ⌝ }
+{
+    let mut j = 0;
+    while j < n {
+        let i = panels::turn_of(down, n, j);
+        let to = i * ld;
+        let row = i * 64;
+        let x = j * 64;
+        let k = i * lda + i;
+        solve_unknown(diag, &mut s[to..], lines, j, u, &v[row..], a, k);
+        value_factors(left, &mut u[x..], lines, &s[to..]);
+        j += 1;
+    }
+}
+
+// The unknowns of the diagonal block from element x0 on, n of them, whose lines stand across in s.
+fn solve_across(
+    left: bool,
+    down: bool,
+    diag: Diagonal,
+    s: &mut [f64],
+    ld: usize,
     lines: usize,
     t: Transpose,
     a: &[f64],
     lda: usize,
-    p: usize,
-    to: usize,
-    x: &mut [f64],
-    r: usize,
-    u: &mut [f64],
-    v: &mut [f64],
+    x0: usize,
+    n: usize,
 )
-    requires { ⌜ (p ≤ to) × (to ≤ m) × (0 < m) × (0 < lines) × (lines ≤ 64) × (0 < r) × (r ≤ 64) × (4096 ≤ length (now x)) × (4096 ≤ length (now u)) × (4096 ≤ length (now v)) ⌝ }
-    requires { ⌜ Room left ld m lines (length (now b)) ⌝ }
-    requires { ⌜ ((i j : ℕ) → i < m → j < m → indexOf (opForm t) lda i j < length (now a)) ⌝ }
-    ensures { λ _. ⌜ Step left down ld m lines diag (entryOf (opForm t) (now (a .entry)) lda) (front to p) (front to to) (now (b .entry)) (now (b .exit)) ⌝ }
+    requires { ⌜ (0 < n) × (n ≤ 64) × (0 < lines) × (lines ≤ 64) × (x0 + n < 18446744073709551616) × ((i j : ℕ) → i < n → j < n → indexOf (opForm t) lda (x0 + i) (x0 + j) < length (now a)) ⌝ }
+    requires { ⌜ Room false ld n lines (length (now s)) ⌝ }
+    ensures { λ _. ⌜ now (s .exit) ≡ update (ordered false down ld n lines (λ q l _. blockValue left down n diag (λ i j. entryOf (opForm t) (now (a .entry)) lda (x0 + i) (x0 + j)) (λ i. at (now (s .entry)) (cell false ld i l)) q)) (now (s .entry)) ⌝ }
 {
-    let mut q = p;
-    while q < to {
-        divide(left, down, diag, b, ld, m, lines, t, a, lda, q);
-        update_to(left, down, b, ld, m, lines, t, a, lda, q, 1, to, x, r, u, v);
-        q += 1;
-    }
+    let mut u = [0.0f64; 4096];
+    let mut v = [0.0f64; 4096];
+    matrix_factors(left, down, t, a, lda, x0, n, &mut v);
+    let from = x0 * lda + x0;
+    solve_unknowns(
+        left,
+        down,
+        diag,
+        s,
+        ld,
+        lines,
+        n,
+        &a[from..],
+        lda,
+        &mut u,
+        &v,
+    );
 }
 
-// The same by groups of 8.
+// The unknowns from the p-th on, n of them, whose sums have the terms of all before the p-th: for side L in a copy of the block's lines.
 fn solve_block(
     left: bool,
     down: bool,
@@ -186,42 +235,23 @@ fn solve_block(
     a: &[f64],
     lda: usize,
     p: usize,
-    to: usize,
-    x: &mut [f64],
-    r: usize,
-    u: &mut [f64],
-    v: &mut [f64],
+    n: usize,
 )
-    requires { ⌜ (p ≤ to) × (to ≤ m) × (0 < m) × (0 < lines) × (lines ≤ 64) × (0 < r) × (r ≤ 64) × (4096 ≤ length (now x)) × (4096 ≤ length (now u)) × (4096 ≤ length (now v)) ⌝ }
+    requires { ⌜ (0 < n) × (n ≤ 64) × (p + n ≤ m) × (0 < lines) × (lines ≤ 64) ⌝ }
     requires { ⌜ Room left ld m lines (length (now b)) ⌝ }
     requires { ⌜ ((i j : ℕ) → i < m → j < m → indexOf (opForm t) lda i j < length (now a)) ⌝ }
-    ensures { λ _. ⌜ Step left down ld m lines diag (entryOf (opForm t) (now (a .entry)) lda) (front to p) (front to to) (now (b .entry)) (now (b .exit)) ⌝ }
+    ensures { λ _. ⌜ Step left down ld m lines diag (entryOf (opForm t) (now (a .entry)) lda) (front (p + n) p) (front (p + n) (p + n)) (now (b .entry)) (now (b .exit)) ⌝ }
 {
-    let mut q = p;
-    while q < to {
-        let n = panels::smaller(8, to - q);
-        let e = q + n;
-        solve_few(
-            left,
-            down,
-            diag,
-            b,
-            ld,
-            m,
-            lines,
-            t,
-            a,
-            lda,
-            q,
-            e,
-            x,
-            r,
-            u,
-            v,
-        );
-        update_to(left, down, b, ld, m, lines, t, a, lda, q, n, to, x, r, u, v);
-        q = e;
+    let x0 = least(down, m, p, n);
+    if left {
+        let mut s = [0.0f64; 4096];
+        lines::take(left, false, &mut s, b, ld, m, lines, x0, n);
+        solve_across(left, down, diag, &mut s, 64, lines, t, a, lda, x0, n);
+        lines::put(left, false, b, ld, m, lines, x0, n, &s);
+        return;
     }
+    let to = x0 * ld;
+    solve_across(left, down, diag, &mut b[to..], ld, lines, t, a, lda, x0, n);
 }
 
 // All unknowns, by blocks of r.
@@ -236,12 +266,9 @@ fn solve(
     t: Transpose,
     a: &[f64],
     lda: usize,
-    x: &mut [f64],
     r: usize,
-    u: &mut [f64],
-    v: &mut [f64],
 )
-    requires { ⌜ (0 < m) × (0 < lines) × (lines ≤ 64) × (0 < r) × (r ≤ 64) × (4096 ≤ length (now x)) × (4096 ≤ length (now u)) × (4096 ≤ length (now v)) ⌝ }
+    requires { ⌜ (0 < m) × (0 < lines) × (lines ≤ 64) × (0 < r) × (r ≤ 64) ⌝ }
     requires { ⌜ Room left ld m lines (length (now b)) ⌝ }
     requires { ⌜ ((i j : ℕ) → i < m → j < m → indexOf (opForm t) lda i j < length (now a)) ⌝ }
     ensures { λ _. ⌜ Step left down ld m lines diag (entryOf (opForm t) (now (a .entry)) lda) (front m 0) (front m m) (now (b .entry)) (now (b .exit)) ⌝ }
@@ -249,27 +276,9 @@ fn solve(
     let mut q = 0;
     while q < m {
         let n = panels::smaller(r, m - q);
-        let e = q + n;
-        solve_block(
-            left,
-            down,
-            diag,
-            b,
-            ld,
-            m,
-            lines,
-            t,
-            a,
-            lda,
-            q,
-            e,
-            x,
-            r,
-            u,
-            v,
-        );
-        update_to(left, down, b, ld, m, lines, t, a, lda, q, n, m, x, r, u, v);
-        q = e;
+        solve_block(left, down, diag, b, ld, m, lines, t, a, lda, q, n);
+        update_rest(left, down, b, ld, m, lines, t, a, lda, q, n, r);
+        q += n;
     }
 }
 
@@ -306,53 +315,8 @@ fn solve_lines(
         pass::clear(b, ld, rows, cols);
         return;
     }
-    let mut x = [0.0f64; 4096];
-    let mut u = [0.0f64; 4096];
-    let mut v = [0.0f64; 4096];
     pass::scale(b, ld, rows, cols, alpha.factor());
-    solve(
-        left,
-        down,
-        diag,
-        b,
-        ld,
-        m,
-        lines,
-        t,
-        a,
-        lda,
-        &mut x,
-        r,
-        &mut u,
-        &mut v,
-    );
-}
-
-// The triangle is the upper one.
-fn upper(uplo: Triangle) -> bool
-    ensures { λ r. ⌜ r ≡ isUpper uplo ⌝ }
-{
-    match uplo {
-        Triangle::Lower => false,
-        Triangle::Upper => true,
-    }
-}
-
-// Solving goes from the last index down: op(A) is upper for side L, lower for side R.
-fn goes_down(side: Side, t: Transpose, uplo: Triangle) -> bool
-    ensures { λ r. ⌜ r ≡ goesDown side t uplo ⌝ }
-{
-    let up = upper(uplo);
-    match side {
-        Side::Left => match t {
-            Transpose::No => up,
-            Transpose::Yes => !up,
-        },
-        Side::Right => match t {
-            Transpose::No => !up,
-            Transpose::Yes => up,
-        },
-    }
+    solve(left, down, diag, b, ld, m, lines, t, a, lda, r);
 }
 
 // TRSM's strip of `lines` columns (side L) or rows (side R) from column or row `from` on: b is the part of B that starts there, and blocks are of r unknowns.
@@ -370,9 +334,9 @@ pub fn trsm_strip(call: Call, a: &[f64], b: &mut [f64], from: usize, lines: usiz
     let n = call.n as usize;
     let lda = call.lda as usize;
     let ldb = call.ldb as usize;
-    let down = goes_down(side, t, uplo);
+    let low = forms::op_lower(t, uplo);
     match side {
-        Side::Left => solve_lines(true, down, diag, alpha, b, ldb, m, lines, t, a, lda, r),
-        Side::Right => solve_lines(false, down, diag, alpha, b, ldb, n, lines, t, a, lda, r),
+        Side::Left => solve_lines(true, !low, diag, alpha, b, ldb, m, lines, t, a, lda, r),
+        Side::Right => solve_lines(false, low, diag, alpha, b, ldb, n, lines, t, a, lda, r),
     }
 }

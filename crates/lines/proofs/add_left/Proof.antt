@@ -15,44 +15,44 @@ op-form-requires : tie.Need-op-form-requires
 op-form-requires c κs = search needs
 
 place-requires : tie.Need-place-requires
-place-requires c κs = omega (arith, first-inside (c .before .before .before .before .before .before .args .t) (c .before .before .before .before .before .before .args .lda) (c .before .before .before .before .before .before .args .y) (c .before .before .before .before .before .before .args .x0) (length (now (c .before .before .before .before .before .before .args .a))) (c .op-form .ensures) (c .before .before .before .before .before .before .pre .1 .2 0 0 (omega arith) (omega arith)))
+place-requires c κs = omega (arith, first-inside (c .before .before .before .before .args .t) (c .before .before .before .before .args .lda) (c .before .before .before .before .args .y) (c .before .before .before .before .args .x0) (length (now (c .before .before .before .before .args .a))) (c .op-form .ensures) (c .before .before .before .before .pre .1 .2 0 0 (omega arith) (omega arith)))
 
 -- the first entry that is read is within a
-read : (c : tie.After-place) → c .place .result < length (now (c .before .before .before .before .before .before .before .args .a))
-read c = rw (c .place .ensures) (first-inside (c .before .before .before .before .before .before .before .args .t) (c .before .before .before .before .before .before .before .args .lda) (c .before .before .before .before .before .before .before .args .y) (c .before .before .before .before .before .before .before .args .x0) (length (now (c .before .before .before .before .before .before .before .args .a))) (c .before .op-form .ensures) (c .before .before .before .before .before .before .before .pre .1 .2 0 0 (omega arith) (omega arith)))
+read : (c : tie.After-place) → c .place .result < length (now (c .before .before .before .before .before .args .a))
+read c = rw (c .place .ensures) (first-inside (c .before .before .before .before .before .args .t) (c .before .before .before .before .before .args .lda) (c .before .before .before .before .before .args .y) (c .before .before .before .before .before .args .x0) (length (now (c .before .before .before .before .before .args .a))) (c .before .op-form .ensures) (c .before .before .before .before .before .pre .1 .2 0 0 (omega arith) (omega arith)))
 
-mul-panels : tie.Need-mul-panels
-mul-panels c = omega (arith, column-room (c .before .before .before .before .before .before .before .args .ld) (c .before .before .before .before .before .before .before .pre .0 .3), c .before .before .before .before .before .before .before .pre)
+mul-multiply : tie.Need-mul-multiply
+mul-multiply c = omega (arith, column-room (c .before .before .before .before .before .args .ld) (c .before .before .before .before .before .pre .0 .3), c .before .before .before .before .before .pre)
 
-sub-panels : tie.Need-sub-panels
-sub-panels c = omega (arith, column-room (c .before .before .before .before .before .before .before .args .ld) (c .before .before .before .before .before .before .before .pre .0 .3), c .before .before .before .before .before .before .before .pre)
+sub-multiply : tie.Need-sub-multiply
+sub-multiply c = omega (arith, column-room (c .before .before .before .before .before .args .ld) (c .before .before .before .before .before .pre .0 .3), c .before .before .before .before .before .pre)
 
-part-panels-start : tie.Need-part-panels-start
-part-panels-start c = omega (arith, column-room (c .before .before .before .before .before .before .before .args .ld) (c .before .before .before .before .before .before .before .pre .0 .3), c .before .before .before .before .before .before .before .pre)
+part-multiply-start : tie.Need-part-multiply-start
+part-multiply-start c = omega (arith, column-room (c .before .before .before .before .before .args .ld) (c .before .before .before .before .before .pre .0 .3), c .before .before .before .before .before .pre)
 
-part-panels-end : tie.Need-part-panels-end
-part-panels-end c = search needs
+part-multiply-end : tie.Need-part-multiply-end
+part-multiply-end c = search needs
 
-mul-panels-2 : tie.Need-mul-panels-2
-mul-panels-2 c = omega (arith, read (c .before))
+mul-multiply-2 : tie.Need-mul-multiply-2
+mul-multiply-2 c = omega (arith, read (c .before))
 
-sub-panels-2 : tie.Need-sub-panels-2
-sub-panels-2 c = omega (arith, read (c .before))
+sub-multiply-2 : tie.Need-sub-multiply-2
+sub-multiply-2 c = omega (arith, read (c .before))
 
-part-panels-start-2 : tie.Need-part-panels-start-2
-part-panels-start-2 c = omega (arith, read (c .before))
+part-multiply-start-2 : tie.Need-part-multiply-start-2
+part-multiply-start-2 c = omega (arith, read (c .before))
 
-part-panels-end-2 : tie.Need-part-panels-end-2
-part-panels-end-2 c = search needs
+part-multiply-end-2 : tie.Need-part-multiply-end-2
+part-multiply-end-2 c = search needs
 
-panels-requires : tie.Need-panels-requires
-panels-requires c κs = (
-  simp tail-length (omega (arith, column-room (c .before .before .before .before .before .before .before .before .before .before .before .args .ld) (c .before .before .before .before .before .before .before .before .before .before .before .pre .0 .3), c .before .before .before .before .before .before .before .before .before .before .before .pre)),
+multiply-requires : tie.Need-multiply-requires
+multiply-requires c κs = (
+  simp tail-length (omega (arith, column-room (c .before .before .before .before .before .before .before .args .ld) (c .before .before .before .before .before .before .before .pre .0 .3), c .before .before .before .before .before .before .before .pre)),
   (
-    (omega (arith, c .before .before .before .before .before .before .before .before .before .before .before .pre, c .before .before .before .before .before .before .before .before .before .before .before .fits), omega (arith, c .before .before .before .before .before .before .before .before .before .before .before .pre, c .before .before .before .before .before .before .before .before .before .before .before .fits)),
+    (omega (arith, c .before .before .before .before .before .before .before .pre, c .before .before .before .before .before .before .before .fits), omega (arith, c .before .before .before .before .before .before .before .pre, c .before .before .before .before .before .before .before .fits)),
     (
-      (λ i l hi hl. rw zero-add (inside-from (c .before .before .before .before .before .before .before .before .before .before .before .args .t) (now (c .before .before .before .before .before .before .before .before .before .before .before .args .a)) _ _ _ _ (c .before .before .before .before .before .op-form .ensures) (c .before .before .before .before .place .ensures) i l (c .before .before .before .before .before .before .before .before .before .before .before .pre .1 .2 i l hi hl))),
-      held-left-inside _ _ _ (omega (arith, c .before .before .before .before .before .before .before .before .before .before .before .pre)) (omega (arith, c .before .before .before .before .before .before .before .before .before .before .before .pre)) (omega (arith, c .before .before .before .before .before .before .before .before .before .before .before .pre)),
+      (λ i l hi hl. rw zero-add (inside-from (c .before .before .before .before .before .before .before .args .t) (now (c .before .before .before .before .before .before .before .args .a)) _ _ _ _ (c .before .before .before .op-form .ensures) (c .before .before .place .ensures) i l (c .before .before .before .before .before .before .before .pre .1 .2 i l hi hl))),
+      held-left-inside _ _ _ (omega (arith, c .before .before .before .before .before .before .before .pre)) (omega (arith, c .before .before .before .before .before .before .before .pre)) (omega (arith, c .before .before .before .before .before .before .before .pre)),
     ),
   ),
 )
@@ -60,18 +60,12 @@ panels-requires c κs = (
 same-length : tie.Need-same-length
 same-length c = search needs
 
-same-length-2 : tie.Need-same-length-2
-same-length-2 c = search needs
-
-same-length-3 : tie.Need-same-length-3
-same-length-3 c = search needs
-
 returns : tie.Need-returns
 returns c =
-    let g = c .before .before .before .before .before .before .before .before .before .before .before .before .before .before .before .before .before .before .args in
-    left-added (g .alpha) (g .t) (now (g .a)) (g .lda) (g .x0) (g .n) (now (g .x)) (g .down) (g .y) (c .before .before .before .before .before .before .before .before .before .before .before .place .result) (c .before .before .before .before .before .before .before .before .before .before .before .before .op-form .ensures)
-    (g .ld) (g .m) (g .lines) (g .h) (now (g .b)) _ (omega (arith, c .before .before .before .before .before .before .before .before .before .before .before .before .before .before .before .before .before .before .pre)) (omega (arith, c .before .before .before .before .before .before .before .before .before .before .before .before .before .before .before .before .before .before .pre)) (c .before .before .before .before .before .before .before .before .before .before .before .place .ensures) (omega (arith, c .before .before .before .before .before .before .before .before .before .before .before .before .before .before .before .before .before .before .pre)) (omega (arith, c .before .before .before .before .before .before .before .before .before .before .before .before .before .before .before .before .before .before .pre)) (omega (arith, column-room (c .before .before .before .before .before .before .before .before .before .before .before .before .before .before .before .before .before .before .args .ld) (c .before .before .before .before .before .before .before .before .before .before .before .before .before .before .before .before .before .before .pre .0 .3), c .before .before .before .before .before .before .before .before .before .before .before .before .before .before .before .before .before .before .pre))
-    (c .before .before .before .before .before .before .panels .ensures)
+    let g = c .before .before .before .before .before .before .before .before .before .before .args in
+    left-added (g .alpha) (g .t) (now (g .a)) (g .lda) (g .x0) (g .n) (now (g .x)) (g .down) (g .y) (c .before .before .before .before .before .place .result) (c .before .before .before .before .before .before .op-form .ensures)
+    (g .ld) (g .m) (g .lines) (g .h) (now (g .b)) _ (omega (arith, c .before .before .before .before .before .before .before .before .before .before .pre)) (omega (arith, c .before .before .before .before .before .before .before .before .before .before .pre)) (c .before .before .before .before .before .place .ensures) (omega (arith, c .before .before .before .before .before .before .before .before .before .before .pre)) (omega (arith, c .before .before .before .before .before .before .before .before .before .before .pre)) (omega (arith, column-room (c .before .before .before .before .before .before .before .before .before .before .args .ld) (c .before .before .before .before .before .before .before .before .before .before .pre .0 .3), c .before .before .before .before .before .before .before .before .before .before .pre))
+    (c .before .before .multiply .ensures)
 
 pub add-left-spec : {M : Type 1} → statement M
 add-left-spec =
@@ -79,16 +73,14 @@ add-left-spec =
     (tie.spec
     op-form-requires
     place-requires
-    mul-panels
-    sub-panels
-    part-panels-start
-    part-panels-end
-    mul-panels-2
-    sub-panels-2
-    part-panels-start-2
-    part-panels-end-2
-    panels-requires
+    mul-multiply
+    sub-multiply
+    part-multiply-start
+    part-multiply-end
+    mul-multiply-2
+    sub-multiply-2
+    part-multiply-start-2
+    part-multiply-end-2
+    multiply-requires
     same-length
-    same-length-2
-    same-length-3
     returns)

@@ -3,9 +3,7 @@
 use Prim.Native.Nat.{ℕ, _≤_, _<_, _-_, _+_}
 use mathlib.Core.Path.{_≡_, refl, ap, _∙_}
 use denote.Ref.{now}
-use native.Mathlib.Omega.{arith}
 use lib.ListN.{length}
-use borrow.Author.Needs.{needs}
 use Rattle.arrays.specs.Choice.{if_then_else_}
 use Rattle.arrays.specs.Update.{update}
 use Rattle.arrays.proofs.UpdateLaws.{length-update}
@@ -18,16 +16,17 @@ use Rattle.lines.specs.Lines.{cell, grid}
 use Rattle.lines.proofs.GridLaws.{some-ld}
 use Rattle.trmm.specs.Sum.{sumOf, done}
 use Rattle.trmm.proofs.OrderLaws.{none-done, all-done, block-done}
+use borrow.Author.Needs.{needs}
+use native.Mathlib.Omega.{arith}
 use Rattle.trmm.proofs.sum_lines.Statement.{statement}
 use Rattle.trmm.proofs.sum_lines.Tie as tie
 
 abbrev Inv-loop : tie.InvT-loop
-Inv-loop left after diag alpha t a lda b₀ ld m lines x₀ y₀ r k₀ b x y k =
-    (k ≤ m) × (length b ≡ length b₀) × (length x ≡ length x₀) × (length y ≡ length y₀)
+Inv-loop left after diag alpha t a lda b₀ ld m lines r k₀ b k = (k ≤ m) × (length b ≡ length b₀)
     × (b ≡ update (grid left ld m lines (λ q l e. if done after m k q then sumOf left after alpha (withDiagonal 1f diag (entryOf (opForm t) a lda)) m (λ p. at b₀ (cell left ld p l)) q else e)) b₀)
 
 abbrev μ-loop : tie.MeasureT-loop
-μ-loop left after diag alpha t a lda b₀ ld m lines x₀ y₀ r k₀ b x y k = m - k
+μ-loop left after diag alpha t a lda b₀ ld m lines r k₀ b k = m - k
 
 -- in a turn: n elements more
 record Turn (k n m : ℕ) : Type 0 where
@@ -35,14 +34,13 @@ record Turn (k n m : ℕ) : Type 0 where
   few : n ≤ 64
   fit : k + n ≤ m
 
-turn : (c : tie.After-smaller Inv-loop μ-loop) → Turn (c .before .before .loop .k) (c .smaller .result) (c .before .before .before .before .before .before .before .args .m)
+turn : (c : tie.After-smaller Inv-loop μ-loop) → Turn (c .before .before .loop .k) (c .smaller .result) (c .before .before .before .before .before .args .m)
 turn c = record { some = c .smaller .ensures .2 (omega arith) (omega arith); few = omega arith; fit = omega arith }
 
 loop-holds : tie.Need-loop-holds Inv-loop μ-loop
-loop-holds c =
-    let g = c .before .before .before .before .args in
-    let p = c .before .before .before .before .pre .0 in
-    (omega arith, refl, refl, refl, none-done (g .left) (g .after) (g .alpha) (g .diag) (entryOf (opForm (g .t)) (now (g .a)) (g .lda)) (g .ld) (g .m) (g .lines) (some-ld (g .left) (g .ld) (g .m) (g .lines) (length (now (g .b))) (omega (arith, p)) (omega (arith, p)) (c .before .before .before .before .pre .1 .0)) (now (g .b)))
+loop-holds c = let g = c .before .before .args in
+    let p = c .before .before .pre .0 in
+    (omega arith, refl, none-done (g .left) (g .after) (g .alpha) (g .diag) (entryOf (opForm (g .t)) (now (g .a)) (g .lda)) (g .ld) (g .m) (g .lines) (some-ld (g .left) (g .ld) (g .m) (g .lines) (length (now (g .b))) (omega (arith, p)) (omega (arith, p)) (c .before .before .pre .1 .0)) (now (g .b)))
 
 sub-smaller : tie.Need-sub-smaller Inv-loop μ-loop
 sub-smaller c = omega arith
@@ -54,44 +52,33 @@ next-block-requires : tie.Need-next-block-requires Inv-loop μ-loop
 next-block-requires c κs = omega (arith, turn c)
 
 block-requires : tie.Need-block-requires Inv-loop μ-loop
-block-requires c κs =
-    let p = c .before .before .before .before .before .before .before .before .before .before .before .pre .0 in
-    let ex = c .before .before .before .before .before .before .loop .inv .2 in
-    let ey = c .before .before .before .before .before .before .loop .inv .3 in
-    (omega (arith, p, ex, ey, turn (c .before .before .before .before), c .before .before .before .next-block .ensures .1), (rw (c .before .before .before .before .before .before .loop .inv .1) (c .before .before .before .before .before .before .before .before .before .before .before .pre .1 .0), c .before .before .before .before .before .before .before .before .before .before .before .pre .1 .1))
+block-requires c κs = let p = c .before .before .before .before .before .before .before .pre .0 in
+    (omega (arith, p, turn (c .before .before), c .before .next-block .ensures .1), (rw (c .before .before .before .before .loop .inv .1) (c .before .before .before .before .before .before .before .pre .1 .0), c .before .before .before .before .before .before .before .pre .1 .1))
 
 add-k : tie.Need-add-k Inv-loop μ-loop
-add-k c = omega (arith, turn (c .before .before .before .before .before .before .before .before .before .before .before))
+add-k c = omega (arith, turn (c .before .before .before .before .before))
 
 loop-less : tie.Need-loop-less Inv-loop μ-loop
-loop-less c = omega (arith, turn (c .before .before .before .before .before .before .before .before .before .before .before))
+loop-less c = omega (arith, turn (c .before .before .before .before .before))
 
 loop-again : tie.Need-loop-again Inv-loop μ-loop
-loop-again c =
-    let g = c .before .before .before .before .before .before .before .before .before .before .before .before .before .before .before .before .before .before .args in
-    let p = c .before .before .before .before .before .before .before .before .before .before .before .before .before .before .before .before .before .before .pre .0 in
-    let pos = some-ld (g .left) (g .ld) (g .m) (g .lines) (length (now (g .b))) (omega (arith, p)) (omega (arith, p)) (c .before .before .before .before .before .before .before .before .before .before .before .before .before .before .before .before .before .before .pre .1 .0) in
+loop-again c = let g = c .before .before .before .before .before .before .before .before .before .before .args in
+    let p = c .before .before .before .before .before .before .before .before .before .before .pre .0 in
+    let pos = some-ld (g .left) (g .ld) (g .m) (g .lines) (length (now (g .b))) (omega (arith, p)) (omega (arith, p)) (c .before .before .before .before .before .before .before .before .before .before .pre .1 .0) in
     let e =
-    block-done (g .left) (g .after) (g .alpha) (g .diag) (entryOf (opForm (g .t)) (now (g .a)) (g .lda)) (g .ld) (g .m) (g .lines) pos (now (g .b)) (c .before .before .before .before .before .before .before .before .before .before .before .before .before .loop .k) (c .before .before .before .before .before .before .before .before .before .before .before .smaller .result) (c .before .before .before .before .before .before .before .before .before .before .next-block .result) _ _
-    (c .before .before .before .before .before .before .before .before .before .before .before .before .before .before .before .before .before .before .pre .1 .0) (c .before .before .before .before .before .before .before .before .before .before .next-block .ensures .0) (c .before .before .before .before .before .before .before .before .before .before .before .before .before .loop .inv .4) (c .before .before .before .before .before .before .block .ensures .0) in
-    (omega (arith, turn (c .before .before .before .before .before .before .before .before .before .before .before)), ap length e ∙ length-update _ _, c .before .before .before .before .before .before .block .ensures .1 ∙ c .before .before .before .before .before .before .before .before .before .before .before .before .before .loop .inv .2, c .before .before .before .before .before .before .block .ensures .2 ∙ c .before .before .before .before .before .before .before .before .before .before .before .before .before .loop .inv .3, e)
+    block-done (g .left) (g .after) (g .alpha) (g .diag) (entryOf (opForm (g .t)) (now (g .a)) (g .lda)) (g .ld) (g .m) (g .lines) pos (now (g .b)) (c .before .before .before .before .before .before .before .loop .k) (c .before .before .before .before .before .smaller .result) (c .before .before .before .before .next-block .result) _ _
+    (c .before .before .before .before .before .before .before .before .before .before .pre .1 .0) (c .before .before .before .before .next-block .ensures .0) (c .before .before .before .before .before .before .before .loop .inv .2) (c .before .before .block .ensures) in
+    (omega (arith, turn (c .before .before .before .before .before)), ap length e ∙ length-update _ _, e)
 
 same-length : tie.Need-same-length Inv-loop μ-loop
 same-length c = omega arith
 
-same-length-2 : tie.Need-same-length-2 Inv-loop μ-loop
-same-length-2 c = omega arith
-
-same-length-3 : tie.Need-same-length-3 Inv-loop μ-loop
-same-length-3 c = omega arith
-
 returns : tie.Need-returns Inv-loop μ-loop
-returns c =
-    let g = c .before .before .before .before .before .before .args in
-    let p = c .before .before .before .before .before .before .pre .0 in
+returns c = let g = c .before .before .before .before .args in
+    let p = c .before .before .before .before .pre .0 in
     let e : c .before .loop .k ≡ g .m = omega arith in
     all-done (g .left) (g .after) (g .alpha) (g .diag) (entryOf (opForm (g .t)) (now (g .a)) (g .lda)) (g .ld) (g .m) (g .lines)
-    (some-ld (g .left) (g .ld) (g .m) (g .lines) (length (now (g .b))) (omega (arith, p)) (omega (arith, p)) (c .before .before .before .before .before .before .pre .1 .0)) (now (g .b)) _ (rw e at (c .before .loop .inv .4))
+    (some-ld (g .left) (g .ld) (g .m) (g .lines) (length (now (g .b))) (omega (arith, p)) (omega (arith, p)) (c .before .before .before .before .pre .1 .0)) (now (g .b)) _ (rw e at (c .before .loop .inv .2))
 
 pub sum-lines-spec : {M : Type 1} → statement M
 sum-lines-spec =
@@ -108,6 +95,4 @@ sum-lines-spec =
     loop-less
     loop-again
     same-length
-    same-length-2
-    same-length-3
     returns)

@@ -44,26 +44,17 @@ scale-requires c κs =
     let some = (some-ld (g .left) (g .ld) (g .m) (g .lines) _ (omega (arith, c .before .before .before .before .before .before .before .before .pre)) (omega (arith, c .before .before .before .before .before .before .before .before .pre)) (c .before .before .before .before .before .before .before .before .pre .1 .0)) in
     rw (c .before .before .before .before .before .pick .ensures, c .before .before .before .before .pick2 .ensures) (some, c .before .before .before .before .before .before .before .before .pre .1 .0 .0, c .before .before .before .before .before .before .before .before .pre .1 .0 .1)
 
-slice-aggregate-solve : tie.Need-slice-aggregate-solve
-slice-aggregate-solve c = search needs
-
-slice-aggregate-solve-2 : tie.Need-slice-aggregate-solve-2
-slice-aggregate-solve-2 c = search needs
-
-slice-aggregate-solve-3 : tie.Need-slice-aggregate-solve-3
-slice-aggregate-solve-3 c = search needs
-
 solve-requires : tie.Need-solve-requires
-solve-requires c κs = (omega arith, (omega (arith, c .before .before .before .before .before .before .before .before .before .before .before .before .before .before .before .pre .1 .0, c .before .before .before .before .before .before .scale .kept), c .before .before .before .before .before .before .before .before .before .before .before .before .before .before .before .pre .1 .1 (sym (c .before .before .before .before .before .before .before .before .before .before .is-zero .ensures) ∙ c .before .before .before .before .before .before .before .before .before .if1 .left)))
+solve-requires c κs = (omega arith, (omega (arith, c .before .before .before .before .before .before .before .before .before .before .before .before .pre .1 .0, c .before .before .before .scale .kept), c .before .before .before .before .before .before .before .before .before .before .before .before .pre .1 .1 (sym (c .before .before .before .before .before .before .before .is-zero .ensures) ∙ c .before .before .before .before .before .before .if1 .left)))
 
 same-length-2 : tie.Need-same-length-2
 same-length-2 c = search needs
 
 returns-2 : tie.Need-returns-2
 returns-2 c =
-    let g = c .before .before .before .before .before .before .before .before .before .before .before .before .before .before .before .before .before .before .before .before .before .args in
-    all-done (g .left) (g .down) (g .ld) (g .m) (g .lines) (g .diag) (g .alpha) (entryOf (opForm (g .t)) (now (g .a)) (g .lda)) (some-ld (g .left) (g .ld) (g .m) (g .lines) _ (omega (arith, c .before .before .before .before .before .before .before .before .before .before .before .before .before .before .before .before .before .before .before .before .before .pre)) (omega (arith, c .before .before .before .before .before .before .before .before .before .before .before .before .before .before .before .before .before .before .before .before .before .pre)) (c .before .before .before .before .before .before .before .before .before .before .before .before .before .before .before .before .before .before .before .before .before .pre .1 .0)) (now (g .b)) _ _ _ (c .before .before .before .before .before .before .before .before .before .before .before .before .before .before .before .before .before .before .pick .ensures) (c .before .before .before .before .before .before .before .before .before .before .before .before .before .before .before .before .before .pick2 .ensures)
-    (sym (c .before .before .before .before .before .before .before .before .before .before .before .before .before .before .before .before .is-zero .ensures) ∙ c .before .before .before .before .before .before .before .before .before .before .before .before .before .before .before .if1 .left) _ _ (c .before .before .before .before .before .before .before .before .before .before .before .before .before .factor .ensures) (c .before .before .before .before .before .before .before .before .before .before .before .before .scale .ensures) (c .before .before .before .before .before .solve .ensures)
+    let g = c .before .before .before .before .before .before .before .before .before .before .before .before .before .before .before .args in
+    all-done (g .left) (g .down) (g .ld) (g .m) (g .lines) (g .diag) (g .alpha) (entryOf (opForm (g .t)) (now (g .a)) (g .lda)) (some-ld (g .left) (g .ld) (g .m) (g .lines) _ (omega (arith, c .before .before .before .before .before .before .before .before .before .before .before .before .before .before .before .pre)) (omega (arith, c .before .before .before .before .before .before .before .before .before .before .before .before .before .before .before .pre)) (c .before .before .before .before .before .before .before .before .before .before .before .before .before .before .before .pre .1 .0)) (now (g .b)) _ _ _ (c .before .before .before .before .before .before .before .before .before .before .before .before .pick .ensures) (c .before .before .before .before .before .before .before .before .before .before .before .pick2 .ensures)
+    (sym (c .before .before .before .before .before .before .before .before .before .before .is-zero .ensures) ∙ c .before .before .before .before .before .before .before .before .before .if1 .left) _ _ (c .before .before .before .before .before .before .before .factor .ensures) (c .before .before .before .before .before .before .scale .ensures) (c .before .before .solve .ensures)
 
 pub solve-lines-spec : {M : Type 1} → statement M
 solve-lines-spec =
@@ -77,9 +68,6 @@ solve-lines-spec =
     returns
     factor-requires
     scale-requires
-    slice-aggregate-solve
-    slice-aggregate-solve-2
-    slice-aggregate-solve-3
     solve-requires
     same-length-2
     returns-2)

@@ -1,4 +1,4 @@
--- `block::column` meets its contract: the terms below q are done, four in a turn.
+-- `block::column` meets its contract: the terms below q are done, eight in a turn.
 -- Assumes nothing.
 use Prim.Native.Nat.{_≤_, _-_, _+_}
 use mathlib.Core.Path.{_≡_, refl}
@@ -27,32 +27,32 @@ add-loop c = omega arith
 mul-x : tie.Need-mul-x Inv-loop μ-loop
 mul-x c = omega arith
 
-mul-axpy4 : tie.Need-mul-axpy4 Inv-loop μ-loop
-mul-axpy4 c = omega arith
+mul-axpy8 : tie.Need-mul-axpy8 Inv-loop μ-loop
+mul-axpy8 c = omega arith
 
-sub-axpy4 : tie.Need-sub-axpy4 Inv-loop μ-loop
-sub-axpy4 c = omega arith
+sub-axpy8 : tie.Need-sub-axpy8 Inv-loop μ-loop
+sub-axpy8 c = omega arith
 
-part-axpy4-start : tie.Need-part-axpy4-start Inv-loop μ-loop
-part-axpy4-start c = omega arith
+part-axpy8-start : tie.Need-part-axpy8-start Inv-loop μ-loop
+part-axpy8-start c = omega arith
 
-part-axpy4-end : tie.Need-part-axpy4-end Inv-loop μ-loop
-part-axpy4-end c = omega arith
+part-axpy8-end : tie.Need-part-axpy8-end Inv-loop μ-loop
+part-axpy8-end c = omega arith
 
-mul-axpy4-2 : tie.Need-mul-axpy4-2 Inv-loop μ-loop
-mul-axpy4-2 c = omega arith
+mul-axpy8-2 : tie.Need-mul-axpy8-2 Inv-loop μ-loop
+mul-axpy8-2 c = omega arith
 
-sub-axpy4-2 : tie.Need-sub-axpy4-2 Inv-loop μ-loop
-sub-axpy4-2 c = omega arith
+sub-axpy8-2 : tie.Need-sub-axpy8-2 Inv-loop μ-loop
+sub-axpy8-2 c = omega arith
 
-part-axpy4-start-2 : tie.Need-part-axpy4-start-2 Inv-loop μ-loop
-part-axpy4-start-2 c = omega arith
+part-axpy8-start-2 : tie.Need-part-axpy8-start-2 Inv-loop μ-loop
+part-axpy8-start-2 c = omega arith
 
-part-axpy4-end-2 : tie.Need-part-axpy4-end-2 Inv-loop μ-loop
-part-axpy4-end-2 c = omega arith
+part-axpy8-end-2 : tie.Need-part-axpy8-end-2 Inv-loop μ-loop
+part-axpy8-end-2 c = omega arith
 
-axpy4-requires : tie.Need-axpy4-requires Inv-loop μ-loop
-axpy4-requires c κs = simp tail-length (omega arith)
+axpy8-requires : tie.Need-axpy8-requires Inv-loop μ-loop
+axpy8-requires c κs = simp tail-length (omega arith)
 
 add-q : tie.Need-add-q Inv-loop μ-loop
 add-q c = omega arith
@@ -61,7 +61,7 @@ loop-less : tie.Need-loop-less Inv-loop μ-loop
 loop-less c = search needs
 
 loop-again : tie.Need-loop-again Inv-loop μ-loop
-loop-again c = (omega arith, omega arith, column-more _ _ _ _ _ _ _ _ (c .before .before .before .before .before .before .before .loop .inv .2) (c .before .before .axpy4 .ensures))
+loop-again c = (omega arith, omega arith, column-more _ _ _ _ _ _ _ _ (c .before .before .before .before .before .before .before .loop .inv .2) (c .before .before .axpy8 .ensures))
 
 same-length : tie.Need-same-length Inv-loop μ-loop
 same-length c = omega arith
@@ -72,35 +72,35 @@ returns c = let e : c .before .before .loop .q ≡ c .before .before .before .be
 mul-y : tie.Need-mul-y Inv-loop μ-loop
 mul-y c = omega arith
 
-sub-column-rest : tie.Need-sub-column-rest Inv-loop μ-loop
-sub-column-rest c = omega arith
+sub-column-fours : tie.Need-sub-column-fours Inv-loop μ-loop
+sub-column-fours c = omega arith
 
-mul-column-rest : tie.Need-mul-column-rest Inv-loop μ-loop
-mul-column-rest c = omega arith
+mul-column-fours : tie.Need-mul-column-fours Inv-loop μ-loop
+mul-column-fours c = omega arith
 
-sub-column-rest-2 : tie.Need-sub-column-rest-2 Inv-loop μ-loop
-sub-column-rest-2 c = omega arith
+sub-column-fours-2 : tie.Need-sub-column-fours-2 Inv-loop μ-loop
+sub-column-fours-2 c = omega arith
 
-part-column-rest-start : tie.Need-part-column-rest-start Inv-loop μ-loop
-part-column-rest-start c = omega arith
+part-column-fours-start : tie.Need-part-column-fours-start Inv-loop μ-loop
+part-column-fours-start c = omega arith
 
-part-column-rest-end : tie.Need-part-column-rest-end Inv-loop μ-loop
-part-column-rest-end c = omega arith
+part-column-fours-end : tie.Need-part-column-fours-end Inv-loop μ-loop
+part-column-fours-end c = omega arith
 
-mul-column-rest-2 : tie.Need-mul-column-rest-2 Inv-loop μ-loop
-mul-column-rest-2 c = omega arith
+mul-column-fours-2 : tie.Need-mul-column-fours-2 Inv-loop μ-loop
+mul-column-fours-2 c = omega arith
 
-sub-column-rest-3 : tie.Need-sub-column-rest-3 Inv-loop μ-loop
-sub-column-rest-3 c = omega arith
+sub-column-fours-3 : tie.Need-sub-column-fours-3 Inv-loop μ-loop
+sub-column-fours-3 c = omega arith
 
-part-column-rest-start-2 : tie.Need-part-column-rest-start-2 Inv-loop μ-loop
-part-column-rest-start-2 c = omega arith
+part-column-fours-start-2 : tie.Need-part-column-fours-start-2 Inv-loop μ-loop
+part-column-fours-start-2 c = omega arith
 
-part-column-rest-end-2 : tie.Need-part-column-rest-end-2 Inv-loop μ-loop
-part-column-rest-end-2 c = omega arith
+part-column-fours-end-2 : tie.Need-part-column-fours-end-2 Inv-loop μ-loop
+part-column-fours-end-2 c = omega arith
 
-column-rest-requires : tie.Need-column-rest-requires Inv-loop μ-loop
-column-rest-requires c κs = simp tail-length (omega arith)
+column-fours-requires : tie.Need-column-fours-requires Inv-loop μ-loop
+column-fours-requires c κs = simp tail-length (omega arith)
 
 same-length-2 : tie.Need-same-length-2 Inv-loop μ-loop
 same-length-2 c = omega arith
@@ -108,7 +108,7 @@ same-length-2 c = omega arith
 returns-2 : tie.Need-returns-2 Inv-loop μ-loop
 returns-2 c =
     let e : c .before .before .before .before .before .before .before .before .loop .q + (c .before .before .before .before .before .before .before .before .before .before .before .before .args .terms - c .before .before .before .before .before .before .before .before .loop .q) ≡ c .before .before .before .before .before .before .before .before .before .before .before .before .args .terms = omega arith in
-    rw e at (column-more _ _ _ _ _ _ _ _ (c .before .before .before .before .before .before .before .before .loop .inv .2) (c .before .before .column-rest .ensures))
+    rw e at (column-more _ _ _ _ _ _ _ _ (c .before .before .before .before .before .before .before .before .loop .inv .2) (c .before .before .column-fours .ensures))
 
 pub column-spec : {M : Type 1} → statement M
 column-spec =
@@ -119,30 +119,30 @@ column-spec =
     loop-holds
     add-loop
     mul-x
-    mul-axpy4
-    sub-axpy4
-    part-axpy4-start
-    part-axpy4-end
-    mul-axpy4-2
-    sub-axpy4-2
-    part-axpy4-start-2
-    part-axpy4-end-2
-    axpy4-requires
+    mul-axpy8
+    sub-axpy8
+    part-axpy8-start
+    part-axpy8-end
+    mul-axpy8-2
+    sub-axpy8-2
+    part-axpy8-start-2
+    part-axpy8-end-2
+    axpy8-requires
     add-q
     loop-less
     loop-again
     same-length
     returns
     mul-y
-    sub-column-rest
-    mul-column-rest
-    sub-column-rest-2
-    part-column-rest-start
-    part-column-rest-end
-    mul-column-rest-2
-    sub-column-rest-3
-    part-column-rest-start-2
-    part-column-rest-end-2
-    column-rest-requires
+    sub-column-fours
+    mul-column-fours
+    sub-column-fours-2
+    part-column-fours-start
+    part-column-fours-end
+    mul-column-fours-2
+    sub-column-fours-3
+    part-column-fours-start-2
+    part-column-fours-end-2
+    column-fours-requires
     same-length-2
     returns-2)

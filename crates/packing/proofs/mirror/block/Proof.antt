@@ -45,6 +45,7 @@ line-requires : tie.Need-line-requires Inv-loop μ-loop
 line-requires c κs = (
   simp tail-length (omega (arith, column-room (c .before .before .before .before .before .args .stride) (c .before .loop-test .taken))),
   omega arith,
+  omega arith,
   λ y h. c .before .before .before .before .before .pre .1 y (c .before .before .loop .x) h (c .before .loop-test .taken),
 )
 

@@ -1,81 +1,108 @@
--- `mirror::line` meets its contract: the entries below y are done.
+-- `mirror::line` meets its contract: two runs.
 -- Assumes nothing.
-use Rattle.packing.specs.Factor.{mirroredForm, entryOf}
-use Rattle.floats.specs.Array.{at}
-use Rattle.arrays.proofs.UpdateLaws.{below-none, below-more}
-use Rattle.arrays.specs.Update.{update, below}
-use denote.Ref.{now}
-use lib.ListN.{length, set, length-set}
-use lib.Ieee.{nan}
-use mathlib.Core.Path.{_≡_, refl, ap, _∙_}
-use Prim.Native.Nat.{ℕ, _≤_, _-_, _+_}
-use borrow.Author.Needs.{needs}
+use mathlib.Core.Path.{_≡_, ap}
+use Prim.Native.Nat.{ℕ, _+_, _*_}
 use native.Mathlib.Omega.{arith}
+use denote.Ref.{now}
+use Rattle.arrays.proofs.PartLaws.{tail-length}
+use Rattle.packing.proofs.MirrorLaws.{lower-mirrored, lower-stored, upper-stored, upper-mirrored, lower-line, upper-line}
+use borrow.Author.Needs.{needs}
 use Rattle.packing.proofs.mirror.line.Statement.{statement}
 use Rattle.packing.proofs.mirror.line.Tie as tie
 
-abbrev Inv-loop : tie.InvT-loop
-Inv-loop dest₀ n lower a ld i j y₀ dest y = (y ≤ n) × (length dest ≡ length dest₀) × (dest ≡ update (below y (λ p x. entryOf (mirroredForm lower) a ld (i + p) j)) dest₀)
+rows-before-requires : tie.Need-rows-before-requires
+rows-before-requires c κs = search needs
 
-abbrev μ-loop : tie.MeasureT-loop
-μ-loop dest₀ n lower a ld i j y₀ dest y = n - y
+mirrored-requires : tie.Need-mirrored-requires
+mirrored-requires c κs = (omega (arith, c .before .rows-before .ensures .0), λ y b. omega (arith, c .before .before .before .before .before .pre .3 y (omega (arith, c .before .rows-before .ensures .0)), lower-mirrored (c .before .before .before .before .before .args .ld) (c .before .before .before .before .before .args .i) (c .before .before .before .before .before .args .j) y (c .before .before .if1 .taken) (c .before .rows-before .ensures .1 y b)))
 
-loop-holds : tie.Need-loop-holds Inv-loop μ-loop
-loop-holds c = (omega arith, refl, below-none _ _)
+mul-stored : tie.Need-mul-stored
+mul-stored c = search needs
 
-add-place : tie.Need-add-place Inv-loop μ-loop
-add-place c = omega arith
+sub-stored : tie.Need-sub-stored
+sub-stored c = search needs
 
-place-requires : tie.Need-place-requires Inv-loop μ-loop
-place-requires c κs = omega (arith, c .before .before .before .before .pre .2 (c .before .loop .y) (c .loop-test .taken))
+part-stored-start : tie.Need-part-stored-start
+part-stored-start c = search needs
 
-mul-dest : tie.Need-mul-dest Inv-loop μ-loop
-mul-dest c = omega (arith, c .before .before .before .before .before .pre .2 (c .before .before .loop .y) (c .before .loop-test .taken), c .place .ensures)
+part-stored-end : tie.Need-part-stored-end
+part-stored-end c = search needs
 
-shared-slice-read-dest : tie.Need-shared-slice-read-dest Inv-loop μ-loop
-shared-slice-read-dest c = omega (arith, c .before .before .before .before .before .before .pre .2 (c .before .before .before .loop .y) (c .before .before .loop-test .taken), c .before .place .ensures)
+sub-stored-2 : tie.Need-sub-stored-2
+sub-stored-2 c = search needs
 
-mul-dest-2 : tie.Need-mul-dest-2 Inv-loop μ-loop
-mul-dest-2 c = omega arith
+add-stored : tie.Need-add-stored
+add-stored c = search needs
 
-slice-write-dest : tie.Need-slice-write-dest Inv-loop μ-loop
-slice-write-dest c = omega arith
+stored-requires : tie.Need-stored-requires
+stored-requires c κs = let k = c .before .before .before .before .before .rows-before .result in (simp tail-length (omega (arith, c .before .before .before .before .before .rows-before .ensures .0)), λ y b. omega (arith, c .before .before .before .before .before .before .before .before .before .pre .3 (k + y) (omega arith), lower-stored (c .before .before .before .before .before .before .before .before .before .args .ld) (c .before .before .before .before .before .before .before .before .before .args .i) (c .before .before .before .before .before .before .before .before .before .args .j) (k + y) (c .before .before .before .before .before .before .if1 .taken) (c .before .before .before .before .before .rows-before .ensures .2 (k + y) (omega arith) (omega arith))))
 
-add-y : tie.Need-add-y Inv-loop μ-loop
-add-y c = omega arith
+same-length : tie.Need-same-length
+same-length c = search needs
 
-loop-less : tie.Need-loop-less Inv-loop μ-loop
-loop-less c = search needs
+returns : tie.Need-returns
+returns c = lower-line (now (c .before .before .before .before .before .before .before .before .before .before .before .before .args .a)) (c .before .before .before .before .before .before .before .before .before .before .before .before .args .ld) (c .before .before .before .before .before .before .before .before .before .before .before .before .args .i) (c .before .before .before .before .before .before .before .before .before .before .before .before .args .j) (c .before .before .before .before .before .before .before .before .rows-before .result) (c .before .before .before .before .before .before .before .before .before .before .before .before .args .n) (now (c .before .before .before .before .before .before .before .before .before .before .before .before .args .dest)) _ _ (omega arith) (c .before .before .before .before .before .before .before .before .before .if1 .taken) (c .before .before .before .before .before .before .before .before .rows-before .ensures) (c .before .before .before .before .before .before .mirrored .ensures) (c .before .before .stored .ensures)
 
-loop-again : tie.Need-loop-again Inv-loop μ-loop
-unfolding entryOf
-loop-again c = (
-  omega arith,
-  simp length-set (omega arith),
-  ap (λ (p : ℕ). set (c .before .before .before .loop .dest) (c .before .before .before .loop .y) (at (now (c .before .before .before .before .before .before .args .a)) p)) (c .before .place .ensures) ∙ below-more nan _ _ _ _ (c .before .before .before .loop .inv .2) (omega arith),
-)
+add-rows-before : tie.Need-add-rows-before
+add-rows-before c = search needs
 
-same-length : tie.Need-same-length Inv-loop μ-loop
-same-length c = omega arith
+rows-before-requires-2 : tie.Need-rows-before-requires-2
+rows-before-requires-2 c κs = search needs
 
-returns : tie.Need-returns Inv-loop μ-loop
-returns c = let e : c .before .loop .y ≡ c .before .before .before .before .args .n = omega arith in rw e at (c .before .loop .inv .2)
+stored-requires-2 : tie.Need-stored-requires-2
+stored-requires-2 c κs = (omega (arith, c .before .rows-before2 .ensures .0), λ y b. omega (arith, c .before .before .before .before .before .pre .3 y (omega (arith, c .before .rows-before2 .ensures .0)), upper-stored (c .before .before .before .before .before .args .ld) (c .before .before .before .before .before .args .i) (c .before .before .before .before .before .args .j) y (c .before .before .if1 .left) (c .before .rows-before2 .ensures .1 y b)))
+
+mul-mirrored : tie.Need-mul-mirrored
+mul-mirrored c = search needs
+
+sub-mirrored : tie.Need-sub-mirrored
+sub-mirrored c = search needs
+
+part-mirrored-start : tie.Need-part-mirrored-start
+part-mirrored-start c = search needs
+
+part-mirrored-end : tie.Need-part-mirrored-end
+part-mirrored-end c = search needs
+
+sub-mirrored-2 : tie.Need-sub-mirrored-2
+sub-mirrored-2 c = search needs
+
+add-mirrored : tie.Need-add-mirrored
+add-mirrored c = search needs
+
+mirrored-requires-2 : tie.Need-mirrored-requires-2
+mirrored-requires-2 c κs = let k = c .before .before .before .before .before .rows-before2 .result in (simp tail-length (omega (arith, c .before .before .before .before .before .rows-before2 .ensures .0)), λ y b. let z : c .before .before .before .before .before .before .before .before .before .args .i + k + y ≡ c .before .before .before .before .before .before .before .before .before .args .i + (k + y) = omega arith in let e = ap (λ (r : ℕ). r * c .before .before .before .before .before .before .before .before .before .args .ld) z in omega (arith, e, c .before .before .before .before .before .before .before .before .before .pre .3 (k + y) (omega arith), upper-mirrored (c .before .before .before .before .before .before .before .before .before .args .ld) (c .before .before .before .before .before .before .before .before .before .args .i) (c .before .before .before .before .before .before .before .before .before .args .j) (k + y) (c .before .before .before .before .before .before .if1 .left) (c .before .before .before .before .before .rows-before2 .ensures .2 (k + y) (omega arith) (omega arith))))
+
+same-length-2 : tie.Need-same-length-2
+same-length-2 c = search needs
+
+returns-2 : tie.Need-returns-2
+returns-2 c = upper-line (now (c .before .before .before .before .before .before .before .before .before .before .before .before .args .a)) (c .before .before .before .before .before .before .before .before .before .before .before .before .args .ld) (c .before .before .before .before .before .before .before .before .before .before .before .before .args .i) (c .before .before .before .before .before .before .before .before .before .before .before .before .args .j) (c .before .before .before .before .before .before .before .before .rows-before2 .result) (c .before .before .before .before .before .before .before .before .before .before .before .before .args .n) (now (c .before .before .before .before .before .before .before .before .before .before .before .before .args .dest)) _ _ (omega arith) (c .before .before .before .before .before .before .before .before .before .if1 .left) (c .before .before .before .before .before .before .before .before .rows-before2 .ensures) (c .before .before .before .before .before .before .stored2 .ensures) (c .before .before .mirrored2 .ensures)
 
 pub line-spec : {M : Type 1} → statement M
 line-spec =
     tie.close
     (tie.spec
-    Inv-loop
-    μ-loop
-    loop-holds
-    add-place
-    place-requires
-    mul-dest
-    shared-slice-read-dest
-    mul-dest-2
-    slice-write-dest
-    add-y
-    loop-less
-    loop-again
+    rows-before-requires
+    mirrored-requires
+    mul-stored
+    sub-stored
+    part-stored-start
+    part-stored-end
+    sub-stored-2
+    add-stored
+    stored-requires
     same-length
-    returns)
+    returns
+    add-rows-before
+    rows-before-requires-2
+    stored-requires-2
+    mul-mirrored
+    sub-mirrored
+    part-mirrored-start
+    part-mirrored-end
+    sub-mirrored-2
+    add-mirrored
+    mirrored-requires-2
+    same-length-2
+    returns-2)

@@ -1,81 +1,88 @@
--- `diagonal::diagonal` meets its contract: the terms of the first i elements of the block are done.
+-- `diagonal::diagonal` meets its contract: the factors are held, by the side, and the walk makes the terms.
 -- Assumes nothing.
-use Prim.Native.Nat.{_≤_, _-_}
-use mathlib.Core.Path.{_≡_, refl, ap, _∙_}
-use denote.Ref.{now}
-use native.Mathlib.Omega.{arith}
-use lib.ListN.{length}
+use Rattle.trmm.proofs.DiagonalLaws.{diagonal-left, diagonal-right}
 use borrow.Author.Needs.{needs}
-use Rattle.arrays.specs.Choice.{if_then_else_}
-use Rattle.arrays.specs.Update.{update}
-use Rattle.arrays.specs.Fold.{fold}
-use Rattle.arrays.proofs.UpdateLaws.{length-update}
-use Rattle.floats.specs.Array.{at}
-use Rattle.floats.specs.Operations.{1f}
-use Rattle.definitions.specs.Storage.{withDiagonal}
-use Rattle.packing.specs.Factor.{entryOf}
-use Rattle.forms.specs.Forms.{opForm}
-use Rattle.lines.specs.Lines.{cell, grid, within}
-use Rattle.lines.proofs.GridLaws.{some-ld}
-use Rattle.trmm.specs.Sum.{termFrom}
-use Rattle.trmm.proofs.TermLaws.{no-term, term-more}
+use native.Mathlib.Omega.{arith}
 use Rattle.trmm.proofs.diagonal.diagonal.Statement.{statement}
 use Rattle.trmm.proofs.diagonal.diagonal.Tie as tie
 
-abbrev Inv-loop : tie.InvT-loop
-Inv-loop left after diag alpha t a lda b₀ ld m lines p0 n x y₀ r i₀ b y i =
-    (i ≤ n) × (length b ≡ length b₀) × (length y ≡ length y₀)
-    × (b ≡ update (grid left ld m lines (λ q l e. if within p0 n q then fold (termFrom left after alpha (withDiagonal 1f diag (entryOf (opForm t) a lda)) p0 (λ k. at x (cell left 64 k l)) q) i e else e)) b₀)
+slice-aggregate-take : tie.Need-slice-aggregate-take
+slice-aggregate-take c = search needs
 
-abbrev μ-loop : tie.MeasureT-loop
-μ-loop left after diag alpha t a lda b₀ ld m lines p0 n x y₀ r i₀ b y i = n - i
+take-requires : tie.Need-take-requires
+take-requires c κs = search needs
 
-loop-holds : tie.Need-loop-holds Inv-loop μ-loop
-loop-holds c =
-    let g = c .before .before .before .before .args in
-    (omega arith, refl, refl, no-term (g .left) (g .after) (g .alpha) (g .diag) _ (g .ld) (g .m) (g .lines) (some-ld (g .left) (g .ld) (g .m) (g .lines) (length (now (g .b))) (omega arith) (omega arith) (c .before .before .before .before .pre .1 .0)) (g .p0) (g .n) (now (g .x)) (now (g .b)))
+slice-aggregate-triangle : tie.Need-slice-aggregate-triangle
+slice-aggregate-triangle c = search needs
 
-one-term-requires : tie.Need-one-term-requires Inv-loop μ-loop
-one-term-requires c κs =
-    let p = c .before .before .before .before .before .before .before .before .pre .0 in
-    let e = c .before .before .before .loop .inv .1 in
-    let f = c .before .before .before .loop .inv .2 in
-    (omega (arith, p, f), (rw e (c .before .before .before .before .before .before .before .before .pre .1 .0), c .before .before .before .before .before .before .before .before .pre .1 .1))
+triangle-requires : tie.Need-triangle-requires
+triangle-requires c κs = (omega arith, omega arith, omega arith, λ i j hi hj. c .before .before .before .before .before .before .before .pre .1 .1 _ _ (omega arith) (omega arith))
 
-add-i : tie.Need-add-i Inv-loop μ-loop
-add-i c = omega arith
+slice-aggregate-scale : tie.Need-slice-aggregate-scale
+slice-aggregate-scale c = search needs
 
-loop-less : tie.Need-loop-less Inv-loop μ-loop
-loop-less c = search needs
+scale-requires : tie.Need-scale-requires
+scale-requires c κs = search needs
 
-loop-again : tie.Need-loop-again Inv-loop μ-loop
-loop-again c =
-    let g = c .before .before .before .before .before .before .before .before .before .before .before .before .before .args in
-    let p = c .before .before .before .before .before .before .before .before .before .before .before .before .before .pre .0 in
-    let pos = some-ld (g .left) (g .ld) (g .m) (g .lines) (length (now (g .b))) (omega (arith, p)) (omega (arith, p)) (c .before .before .before .before .before .before .before .before .before .before .before .before .before .pre .1 .0) in
-    let e = term-more (g .left) (g .after) (g .alpha) (g .diag) (entryOf (opForm (g .t)) (now (g .a)) (g .lda)) (g .ld) (g .m) (g .lines) pos (g .p0) (g .n) (c .before .before .before .before .before .before .before .before .loop .i) (now (g .x)) (now (g .b)) _ _ (c .before .before .before .before .before .before .before .before .loop .inv .3) (c .before .before .before .before .one-term .ensures .0) in
-    (omega arith, ap length e ∙ length-update _ _, c .before .before .before .before .one-term .ensures .1 ∙ c .before .before .before .before .before .before .before .before .loop .inv .2, e)
+slice-aggregate-walk-turned : tie.Need-slice-aggregate-walk-turned
+slice-aggregate-walk-turned c = search needs
 
-same-length : tie.Need-same-length Inv-loop μ-loop
-same-length c = omega arith
+slice-aggregate-walk-turned-2 : tie.Need-slice-aggregate-walk-turned-2
+slice-aggregate-walk-turned-2 c = search needs
 
-same-length-2 : tie.Need-same-length-2 Inv-loop μ-loop
-same-length-2 c = omega arith
+walk-turned-requires : tie.Need-walk-turned-requires
+walk-turned-requires c κs = search needs
 
-returns : tie.Need-returns Inv-loop μ-loop
-returns c = let e : c .before .loop .i ≡ c .before .before .before .before .before .before .args .n = omega arith in (rw e at (c .before .loop .inv .3), c .before .loop .inv .2)
+same-length : tie.Need-same-length
+same-length c = search needs
+
+returns : tie.Need-returns
+returns c = let p = c .before .before .before .before .before .before .before .before .before .before .before .before .before .before .before .before .before .before .before .pre .0 in
+    diagonal-left _ _ _ _ _ _ _ _ _ _ _ _ (omega (arith, p)) (omega (arith, p)) (omega (arith, p)) (omega (arith, p)) (omega arith) (c .before .before .before .before .before .before .before .before .before .before .before .before .before .before .take .ensures)
+    _ (c .before .before .before .before .before .before .before .before .before .if1 .taken) _ (c .before .before .before .before .before .before .before .scale .ensures) (c .before .before .before .before .before .before .before .before .before .before .before .triangle .ensures .1) (c .before .before .walk-turned .ensures)
+
+slice-aggregate-scale-2 : tie.Need-slice-aggregate-scale-2
+slice-aggregate-scale-2 c = search needs
+
+scale-requires-2 : tie.Need-scale-requires-2
+scale-requires-2 c κs = search needs
+
+slice-aggregate-walk : tie.Need-slice-aggregate-walk
+slice-aggregate-walk c = search needs
+
+slice-aggregate-walk-2 : tie.Need-slice-aggregate-walk-2
+slice-aggregate-walk-2 c = search needs
+
+walk-requires : tie.Need-walk-requires
+walk-requires c κs = search needs
+
+same-length-2 : tie.Need-same-length-2
+same-length-2 c = search needs
+
+returns-2 : tie.Need-returns-2
+returns-2 c = let p = c .before .before .before .before .before .before .before .before .before .before .before .before .before .before .before .before .before .before .before .pre .0 in
+    diagonal-right _ _ _ _ _ _ _ _ _ _ _ _ (omega (arith, p)) (omega (arith, p)) (omega (arith, p)) (omega (arith, p)) (omega arith) (c .before .before .before .before .before .before .before .before .before .before .before .before .before .before .take .ensures)
+    _ (c .before .before .before .before .before .before .before .before .before .if1 .left) _ (omega (arith, c .before .before .before .before .before .before .before .before .before .before .before .triangle .ensures .0)) (c .before .before .before .before .before .before .before .scale2 .ensures) (c .before .before .before .before .before .before .before .before .before .before .before .triangle .ensures .1) (c .before .before .walk .ensures)
 
 pub diagonal-spec : {M : Type 1} → statement M
 diagonal-spec =
     tie.close
     (tie.spec
-    Inv-loop
-    μ-loop
-    loop-holds
-    one-term-requires
-    add-i
-    loop-less
-    loop-again
+    slice-aggregate-take
+    take-requires
+    slice-aggregate-triangle
+    triangle-requires
+    slice-aggregate-scale
+    scale-requires
+    slice-aggregate-walk-turned
+    slice-aggregate-walk-turned-2
+    walk-turned-requires
     same-length
+    returns
+    slice-aggregate-scale-2
+    scale-requires-2
+    slice-aggregate-walk
+    slice-aggregate-walk-2
+    walk-requires
     same-length-2
-    returns)
+    returns-2)

@@ -1,0 +1,83 @@
+-- `solve_across` solves a diagonal block whose lines stand across: with its factors in a buffer the unknowns get the same values.
+-- Assumes nothing.
+use mathlib.Core.Bool.{false}
+use mathlib.Core.Path.{_∙_}
+use Prim.Native.Nat.{_+_, _*_, _<_}
+use native.Mathlib.Omega.{arith}
+use lib.ListN.{length}
+use denote.Ref.{now}
+use Rattle.arrays.proofs.PartLaws.{tail-length}
+use Rattle.packing.specs.Factor.{entryOf}
+use Rattle.forms.specs.Forms.{opForm}
+use Rattle.trsm.proofs.OrderLaws.{ordered-same}
+use Rattle.trsm.proofs.FactorLaws.{packed-is}
+use Rattle.trsm.proofs.BlockLaws.{diagonal-inside, diagonal-part}
+use borrow.Author.Needs.{needs}
+use Rattle.trsm.proofs.solve_across.Statement.{statement}
+use Rattle.trsm.proofs.solve_across.Tie as tie
+
+slice-aggregate-matrix-factors : tie.Need-slice-aggregate-matrix-factors
+slice-aggregate-matrix-factors c = search needs
+
+matrix-factors-requires : tie.Need-matrix-factors-requires
+matrix-factors-requires c κs = search needs
+
+-- the first diagonal element is within a
+read : (c : tie.After-v2) → c .before .before .before .before .before .args .x0 * c .before .before .before .before .before .args .lda + c .before .before .before .before .before .args .x0 < length (now (c .before .before .before .before .before .args .a))
+read c = omega (arith, diagonal-inside (c .before .before .before .before .before .args .t) (now (c .before .before .before .before .before .args .a)) (c .before .before .before .before .before .args .lda) (c .before .before .before .before .before .args .x0) 0 (c .before .before .before .before .before .pre .0 .5 0 0 (c .before .before .before .before .before .pre .0 .0) (c .before .before .before .before .before .pre .0 .0)), tail-length (c .before .before .before .before .before .args .x0 * c .before .before .before .before .before .args .lda + c .before .before .before .before .before .args .x0) (now (c .before .before .before .before .before .args .a)))
+
+mul-from : tie.Need-mul-from
+mul-from c = omega (arith, read c)
+
+add-from : tie.Need-add-from
+add-from c = omega (arith, read c)
+
+mul-solve-unknowns : tie.Need-mul-solve-unknowns
+mul-solve-unknowns c = omega (arith, read (c .before))
+
+sub-solve-unknowns : tie.Need-sub-solve-unknowns
+sub-solve-unknowns c = omega (arith, read (c .before))
+
+part-solve-unknowns-start : tie.Need-part-solve-unknowns-start
+part-solve-unknowns-start c = omega (arith, read (c .before))
+
+part-solve-unknowns-end : tie.Need-part-solve-unknowns-end
+part-solve-unknowns-end c = search needs
+
+slice-aggregate-solve-unknowns : tie.Need-slice-aggregate-solve-unknowns
+slice-aggregate-solve-unknowns c = search needs
+
+slice-aggregate-solve-unknowns-2 : tie.Need-slice-aggregate-solve-unknowns-2
+slice-aggregate-solve-unknowns-2 c = search needs
+
+solve-unknowns-requires : tie.Need-solve-unknowns-requires
+solve-unknowns-requires c κs = ((omega arith, omega arith, omega arith, omega arith, omega arith, λ i h. diagonal-inside (c .before .before .before .before .before .before .before .before .before .args .t) (now (c .before .before .before .before .before .before .before .before .before .args .a)) (c .before .before .before .before .before .before .before .before .before .args .lda) (c .before .before .before .before .before .before .before .before .before .args .x0) i (c .before .before .before .before .before .before .before .before .before .pre .0 .5 i i h h)), c .before .before .before .before .before .before .before .before .before .pre .1)
+
+same-length : tie.Need-same-length
+same-length c = search needs
+
+returns : tie.Need-returns
+returns c =
+    let g = c .before .before .before .before .before .before .before .before .before .before .before .before .before .args in
+    c .before .before .before .solve-unknowns .ensures
+    ∙ ordered-same false (g .down) (g .ld) (g .n) (g .lines) _ _ (now (g .s)) (omega (arith, c .before .before .before .before .before .before .before .before .before .before .before .before .before .pre))
+    (λ q l hq hl x.
+    packed-is (g .left) (g .down) (g .n) (g .x0) (g .diag) (entryOf (opForm (g .t)) (now (g .a)) (g .lda)) _ _ _ (λ i h. diagonal-part (g .t) (now (g .a)) (g .lda) (g .x0) i) (c .before .before .before .before .before .before .before .before .before .matrix-factors .ensures) q hq)
+
+pub solve-across-spec : {M : Type 1} → statement M
+solve-across-spec =
+    tie.close
+    (tie.spec
+    slice-aggregate-matrix-factors
+    matrix-factors-requires
+    mul-from
+    add-from
+    mul-solve-unknowns
+    sub-solve-unknowns
+    part-solve-unknowns-start
+    part-solve-unknowns-end
+    slice-aggregate-solve-unknowns
+    slice-aggregate-solve-unknowns-2
+    solve-unknowns-requires
+    same-length
+    returns)
