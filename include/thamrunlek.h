@@ -1,4 +1,5 @@
-/* Thamrunlek: proved Level 3 BLAS routines on double precision numbers.
+/* Thamrunlek: proved Level 3 BLAS routines on double precision numbers, each callable alone, and a runner for lists of
+ * calls.
  *
  * A matrix is stored by columns: entry (i, j), both from 0, of an array with leading dimension ld is element
  * j * ld + i. An array of p rows and q columns needs ld * (q - 1) + p elements, or none if p or q is 0. Each array is
@@ -7,9 +8,9 @@
  *
  * Codes are character numbers, in upper or lower case, as 'N' or 'n'.
  *
- * Every call returns 0, or the number of its first bad argument, and then it has written nothing. The strip width and
- * the block size are tested first (30); then codes, sizes and leading dimensions, in the order of the numbers given
- * below; then the lengths of the arrays, in that order too.
+ * Every call of a routine returns 0, or the number of its first bad argument, and then it has written nothing. The
+ * strip width and the block size are tested first (30); then codes, sizes and leading dimensions, in the order of the
+ * numbers given below; then the lengths of the arrays, in that order too.
  *
  * The result of a call is fixed to the last bit. Each element starts as +0.0 if beta is zero (the old element is not
  * read), as the old element if beta is one, and else as beta times it. Then, unless alpha is zero, each term turns the
@@ -169,6 +170,61 @@ int32_t tl_dtrmm(int32_t side, int32_t uplo, int32_t transa, int32_t diag, int32
 int32_t tl_dtrsm(int32_t side, int32_t uplo, int32_t transa, int32_t diag, int32_t m, int32_t n, double alpha,
                  const double *a, size_t a_len, int32_t lda, double *b, size_t b_len, int32_t ldb,
                  int32_t w, int32_t r);
+
+/* What a run of a call sheet returns.
+ *
+ * number  0, or the number of a refusal, and then the run has written nothing:
+ *         34: the sheet's trailer is bad.
+ *         35: there are fewer answers than records, or fewer scalars than twice as many.
+ *         36: the cursor is none: p is negative or above the count, or s is not 0 and not a strip of an accepted
+ *         record p.
+ * p, s    the new cursor; of a refused run, the one that it was given. The sheet is finished when p is the count.
+ * steps   the steps made, 0 for a refused run.
+ */
+struct RunEnd {
+    int32_t number;
+    int32_t p;
+    int32_t s;
+    uint32_t steps;
+};
+
+/* A run of a call sheet: at most budget steps of it, from the cursor (p, s) on.
+ *
+ * A sheet is an array of words. Its last two words, the trailer, are the index of the first record's first word and the
+ * count of the records. Neither is negative, and index + 20 * count is sheet_len - 2. Words before the index are not
+ * read. A record has 20 words; those of arguments that its routine lacks are not read:
+ *
+ *  0  routine: 1 GEMM, 2 SYMM, 3 SYRK, 4 SYR2K, 5 TRMM, 6 TRSM
+ *  1  side     2  uplo     3  trans or transa     4  transb     5  diag     6  m     7  n     8  k
+ *  9  array that A is in (0: X, 1: Y, 2: Z)      10  A's first element in it      11  lda
+ * 12  the same for B                             13                               14  ldb
+ * 15  the same for C                             16                               17  ldc
+ * 18  w       19  r
+ *
+ * A matrix has all elements of its array from its first one on. A and B may be in the same array; the matrix that is
+ * written is in another one. Each record gets an answer: 0 once its last strip is made, or its number, and then it has
+ * written nothing. 31: the routine is not 1 to 6. 32: an array number is not 0 to 2, or the array that is written has
+ * another matrix too. 33: a first element is negative or above the length of its array. Any other number is what a call
+ * of the routine would return.
+ *
+ * A step makes one strip of a record, which is w columns of its output (rows for TRMM and TRSM of side R), the last one
+ * perhaps fewer; or it refuses a record. A record with nothing to do takes its steps too. So the arrays, the answers
+ * and the cursor are all that a sheet needs to be taken up again, and how a sheet is cut into runs changes no bit.
+ *
+ * X, Y, Z and the answers must not overlap each other, the sheet or the scalars.
+ *
+ * sheet    the words. They are only read. sheet_len words.
+ * scalars  alpha of record p at 2 * p and beta at 2 * p + 1. They are only read. scalars_len elements, at least twice
+ *          the count.
+ * x, y, z  the arrays X, Y and Z, read and written. x_len, y_len and z_len elements.
+ * answers  the answer of record p at p. answers_len words, at least the count. Others keep their bits.
+ * p        the cursor: the record that comes next, or the count when the sheet is finished. A sheet begins at (0, 0).
+ * s        the strip of it that comes next, from 0.
+ * budget   the most steps that this run makes.
+ */
+struct RunEnd tl_run(const int32_t *sheet, size_t sheet_len, const double *scalars, size_t scalars_len,
+                     double *x, size_t x_len, double *y, size_t y_len, double *z, size_t z_len,
+                     int32_t *answers, size_t answers_len, int32_t p, int32_t s, uint32_t budget);
 
 #ifdef __cplusplus
 }

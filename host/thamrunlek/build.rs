@@ -2,7 +2,7 @@
 
 use std::{env, fs, path::PathBuf};
 
-const ROUTINES: [&str; 6] = ["dgemm", "dsymm", "dsyrk", "dsyr2k", "dtrmm", "dtrsm"];
+const FUNCTIONS: [&str; 7] = ["dgemm", "dsymm", "dsyrk", "dsyr2k", "dtrmm", "dtrsm", "run"];
 
 fn main() {
     let here = PathBuf::from(env::var_os("CARGO_MANIFEST_DIR").expect("cargo sets it"));
@@ -26,8 +26,8 @@ fn main() {
     let text = fs::read_to_string(&list).unwrap_or_else(|error| panic!("{}: {error}", list.display()));
     let listed: Vec<&str> = text.lines().collect();
 
-    println!("cargo:rustc-check-cfg=cfg(linked, values({}))", ROUTINES.map(|name| format!("{name:?}")).join(", "));
-    for name in ROUTINES {
+    println!("cargo:rustc-check-cfg=cfg(linked, values({}))", FUNCTIONS.map(|name| format!("{name:?}")).join(", "));
+    for name in FUNCTIONS {
         let found = has_symbol(&bytes, &format!("tl_{name}"));
         match (listed.contains(&name), found) {
             (true, true) => println!("cargo:rustc-cfg=linked={name:?}"),

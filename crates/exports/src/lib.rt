@@ -1,6 +1,10 @@
-// The direct calls for programs in other languages: a slice is a pointer and then a length.
+// The direct calls and the runner of call sheets for programs in other languages: a slice is a pointer and then a length.
 ghost use mathlib.Core.Path.{_≡_};
 ghost use Rattle.definitions.specs.Direct as Direct;
+ghost use Rattle.definitions.specs.Run as Run;
+ghost use Rattle.records.specs.Judgement.{sheetOf, arraysOf};
+ghost use Rattle.sheet.specs.Lent.{ranOf};
+use definitions::RunEnd;
 
 #[no_mangle]
 pub extern "C" fn tl_dgemm(
@@ -149,4 +153,22 @@ pub extern "C" fn tl_dtrsm(
     ensures { λ x. ⌜ (x ≡ Direct.trsm side uplo transa diag m n alpha (now (a .entry)) lda (now (b .entry)) ldb w r .number) × (now (b .exit) ≡ Direct.trsm side uplo transa diag m n alpha (now (a .entry)) lda (now (b .entry)) ldb w r .array) ⌝ }
 {
     blas::trsm(side, uplo, transa, diag, m, n, alpha, a, lda, b, ldb, w, r)
+}
+
+#[no_mangle]
+pub extern "C" fn tl_run(
+    sheet: &[i32],
+    scalars: &[f64],
+    x: &mut [f64],
+    y: &mut [f64],
+    z: &mut [f64],
+    answers: &mut [i32],
+    p: i32,
+    s: i32,
+    budget: u32,
+) -> RunEnd
+    ensures { λ r. ⌜ ranOf r (arraysOf (now (x .exit)) (now (y .exit)) (now (z .exit))) (now (answers .exit))
+        ≡ Run.run (sheetOf (now (sheet .entry)) (now (scalars .entry))) budget (arraysOf (now (x .entry)) (now (y .entry)) (now (z .entry))) (now (answers .entry)) p s ⌝ }
+{
+    sheet::run(sheet, scalars, x, y, z, answers, p, s, budget)
 }

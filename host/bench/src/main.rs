@@ -1,12 +1,14 @@
 //! Times the library against netlib's BLAS and OpenBLAS with its SSE kernels, in one run on one core.
 //!
 //! `bench [ROUTINE..]` times the named routines, or all that the library has; `bench rank-update` compares SYRK of
-//! order 512 with three nested loops. The peers come from `peers.sh`. For each problem all libraries take turns, batch
-//! by batch, on the same arrays, so that noise hits all alike.
+//! order 512 with three nested loops, and `bench steps` the steps of call sheets with direct calls. The peers come from
+//! `peers.sh`. For each problem all libraries take turns, batch by batch, on the same arrays, so that noise hits all
+//! alike.
 
 mod peers;
 mod problem;
 mod rank_update;
+mod steps;
 
 use peers::Peer;
 use problem::{variants, Problem};
@@ -161,6 +163,10 @@ fn run(words: &[String]) -> Result<(), String> {
     if words == ["rank-update"] {
         chosen(&["syrk".to_string()])?;
         rank_update::report();
+        return Ok(());
+    }
+    if words == ["steps"] {
+        steps::report();
         return Ok(());
     }
     let routines = chosen(words)?;

@@ -40,7 +40,7 @@ const SPECIAL: [f64; 18] = [
 
 /// The values of a case's matrices.
 #[derive(Clone, Copy)]
-enum Values {
+pub(crate) enum Values {
     /// Small integers.
     Integers,
     /// Full mantissas and a wide range of exponents.
@@ -59,7 +59,7 @@ enum Values {
     Huge,
 }
 
-const VALUES: [Values; 8] = [
+pub(crate) const VALUES: [Values; 8] = [
     Values::Integers,
     Values::Wide,
     Values::Tame,
@@ -70,7 +70,7 @@ const VALUES: [Values; 8] = [
     Values::Huge,
 ];
 
-fn value(random: &mut Random, values: Values) -> f64 {
+pub(crate) fn value(random: &mut Random, values: Values) -> f64 {
     match values {
         Values::Integers => random.from(-4, 4) as f64,
         Values::Wide => random.float(-40, 40),
@@ -115,7 +115,7 @@ fn letter(random: &mut Random, letters: &[char]) -> i32 {
 }
 
 /// Random options and scalars.
-fn options(random: &mut Random, routine: Routine) -> Call {
+pub(crate) fn options(random: &mut Random, routine: Routine) -> Call {
     Call {
         side: letter(random, &['L', 'R']),
         uplo: letter(random, &['L', 'U']),
@@ -129,7 +129,7 @@ fn options(random: &mut Random, routine: Routine) -> Call {
 }
 
 /// A strip width or block size, small ones often.
-fn width(random: &mut Random) -> i32 {
+pub(crate) fn width(random: &mut Random) -> i32 {
     if random.once_in(2) {
         random.from(1, 8)
     } else {
@@ -143,7 +143,7 @@ fn leading(random: &mut Random, rows: i32) -> i32 {
 }
 
 /// Good leading dimensions for the call's options and sizes.
-fn with_leading(random: &mut Random, call: Call) -> Call {
+pub(crate) fn with_leading(random: &mut Random, call: Call) -> Call {
     Call {
         lda: leading(random, call.stored_a().0),
         ldb: leading(random, call.stored_b().0),

@@ -1,4 +1,4 @@
-//! Compares two implementations of the routines bit for bit on made-up calls.
+//! Compares two implementations of the routines, or of the runner of call sheets, bit for bit on made-up calls.
 //!
 //! A [`Case`] is a call with two sets of arrays, one for each implementation. They agree where the call reads and hold
 //! different fillers (NaN, infinities, noise) where it does not: padding, the other triangle, a unit diagonal, the old
@@ -9,9 +9,15 @@
 
 mod cases;
 mod random;
+mod runs;
+mod saved;
+mod sheets;
 
 pub use cases::{accepted, extreme, large, Case};
-pub use random::{seed, Random};
+pub use random::{cases, seed, Random};
+pub use runs::{compare_runs, differ, library_run, Runner};
+pub use saved::Saved;
+pub use sheets::{long, sheet, SheetCase, UNANSWERED};
 
 use reference::{Call, Routine};
 

@@ -11,6 +11,16 @@ pub fn seed() -> u64 {
     })
 }
 
+/// The indices of a test's cases: all of them, or every n-th one if the variable THAMRUNLEK_EVERY is n, for a run that
+/// has not the time for all.
+pub fn cases(count: usize) -> impl Iterator<Item = usize> {
+    let every = env::var("THAMRUNLEK_EVERY").map_or(1, |text| match text.parse() {
+        Ok(every) if every > 0 => every,
+        _ => panic!("THAMRUNLEK_EVERY is not a positive number: {text}"),
+    });
+    (0..count).step_by(every)
+}
+
 /// SplitMix64.
 pub struct Random(u64);
 

@@ -1,6 +1,6 @@
 //! The library and the reference agree bit for bit on accepted calls.
 
-use compare::{accepted, hold, large, routines};
+use compare::{accepted, cases, hold, large, routines};
 use reference::{Call, Routine};
 
 /// Letters in both cases.
@@ -50,29 +50,26 @@ fn agree(test: &str, index: u64, make: impl FnOnce(&mut compare::Random) -> comp
 #[test]
 fn all_options_and_sizes() {
     for routine in routines() {
-        let mut index = 0;
-        for options in combinations(routine, &SIDES, &TRIANGLES, &TRANSPOSES, &DIAGONALS) {
-            for size in 0..=20 {
-                for place in 0..3 {
-                    agree(&format!("options {routine:?}"), index, |random| {
-                        accepted(random, routine, |call| {
-                            take_options(call, &options);
-                            *[&mut call.m, &mut call.n, &mut call.k][place] = size;
-                        })
-                    });
-                    index += 1;
-                }
-            }
+        let combinations = combinations(routine, &SIDES, &TRIANGLES, &TRANSPOSES, &DIAGONALS);
+        assert!(63 * combinations.len() >= 1000);
+        for index in cases(63 * combinations.len()) {
+            let (options, size, place) = (&combinations[index / 63], index % 63 / 3, index % 3);
+            agree(&format!("options {routine:?}"), index as u64, |random| {
+                accepted(random, routine, |call| {
+                    take_options(call, options);
+                    *[&mut call.m, &mut call.n, &mut call.k][place] = size as i32;
+                })
+            });
         }
-        assert!(index >= 1000);
     }
 }
 
 #[test]
 fn all_widths_and_block_sizes() {
     for routine in routines() {
-        for (w, r) in (0..64 * 64).map(|index| (index / 64 + 1, index % 64 + 1)) {
-            agree(&format!("widths {routine:?}"), (64 * w + r) as u64, |random| {
+        for index in cases(64 * 64) {
+            let (w, r) = (index as i32 / 64 + 1, index as i32 % 64 + 1);
+            agree(&format!("widths {routine:?}"), index as u64, |random| {
                 accepted(random, routine, |call| (call.w, call.r) = (w, r))
             });
         }
@@ -82,8 +79,8 @@ fn all_widths_and_block_sizes() {
 #[test]
 fn twenty_thousand_random_calls_of_each_routine() {
     for routine in routines() {
-        for index in 0..20_000 {
-            agree(&format!("random {routine:?}"), index, |random| accepted(random, routine, |_| ()));
+        for index in cases(20_000) {
+            agree(&format!("random {routine:?}"), index as u64, |random| accepted(random, routine, |_| ()));
         }
     }
 }
@@ -92,13 +89,11 @@ fn twenty_thousand_random_calls_of_each_routine() {
 fn sizes_around_multiples_of_64() {
     for routine in routines() {
         let combinations = combinations(routine, &['L', 'R'], &['L', 'U'], &['N', 'T'], &['U', 'N']);
-        let rounds = 48 / combinations.len() as u64;
-        for (options, index) in combinations.iter().zip(0..) {
-            for round in 0..rounds {
-                agree(&format!("large {routine:?}"), rounds * index + round, |random| {
-                    large(random, routine, |call| take_options(call, options))
-                });
-            }
+        for index in cases(48) {
+            let options = &combinations[index % combinations.len()];
+            agree(&format!("large {routine:?}"), index as u64, |random| {
+                large(random, routine, |call| take_options(call, options))
+            });
         }
     }
 }

@@ -1,5 +1,6 @@
-//! The six Level 3 BLAS routines on `f64`, proved: a call ends without a fault on any input, its result is bit for
-//! bit what the definitions say, and the bits do not depend on strip widths, block sizes or the machine.
+//! The six Level 3 BLAS routines on `f64` and a runner for lists of calls, proved: a call ends without a fault on any
+//! input, its result is bit for bit what the definitions say, and the bits do not depend on strip widths, block sizes,
+//! budgets or the machine.
 //!
 //! Matrices are stored by columns: entry (i, j), both from 0, of an array with leading dimension `ld` is element
 //! `j * ld + i`. An array of p rows and q columns needs `ld * (q - 1) + p` elements, or none if p or q is 0. op(A) is A
@@ -32,9 +33,11 @@
 mod options;
 pub mod raw;
 mod refusal;
+mod sheet;
 
 pub use options::{Blocks, Diagonal, Side, Transpose, Triangle};
 pub use refusal::{Refusal, Routine};
+pub use sheet::{run, Cursor, Ran, RunRefusal};
 
 /// The routines that the archive has.
 pub const ROUTINES: &[Routine] = &[
@@ -118,6 +121,11 @@ pub fn trsm(
     let number = raw::trsm(side, uplo, transa, diag, m, n, alpha, a, lda, b, ldb, width, size);
     Refusal::of(Routine::Trsm, number)
 }
+
+// The README's code in Rust is tested with the examples of this crate.
+#[cfg(doctest)]
+#[doc = include_str!("../../../README.md")]
+struct Readme;
 
 #[cfg(test)]
 mod tests {

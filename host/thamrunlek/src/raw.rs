@@ -1,7 +1,8 @@
-//! The routines with codes as numbers: the C functions of the library, with a slice for each pointer and length.
+//! The C functions of the library, with a slice for each pointer and length.
 //!
-//! Each takes any numbers at all and gives 0, or the number of the first bad argument; refused, it writes nothing.
-//! [`Refusal`](crate::Refusal) says what a number means. Codes are character numbers, as `'N' as i32`.
+//! A routine takes any numbers at all and gives 0, or the number of the first bad argument; refused, it writes nothing.
+//! [`Refusal`](crate::Refusal) says what a number means. Codes are character numbers, as `'N' as i32`. A run of a call
+//! sheet takes any words, too; its number is in its [`RunEnd`].
 //!
 //! The library reads and writes nothing outside the slices; that is part of what is proved of it. It keeps no
 //! pointer, so these functions are safe on any arguments.
@@ -10,13 +11,15 @@
 
 /// Declares a function of the archive. One that routines.txt does not list yet panics when it is called.
 macro_rules! archive {
-    ($linked:tt fn $name:ident($($argument:ident: $type:ty),* $(,)?)) => {
+    ($linked:tt fn $name:ident($($argument:ident: $type:ty),* $(,)?) -> $result:ty) => {
         #[cfg(linked = $linked)]
         extern "C" {
-            fn $name($($argument: $type),*) -> i32;
+            /// The C function, as include/thamrunlek.h describes it.
+            pub fn $name($($argument: $type),*) -> $result;
         }
         #[cfg(not(linked = $linked))]
-        unsafe fn $name($(_: $type),*) -> i32 {
+        #[allow(missing_docs)]
+        pub unsafe fn $name($(_: $type),*) -> $result {
             panic!(concat!("the archive has no ", stringify!($name)))
         }
     };
@@ -25,27 +28,33 @@ macro_rules! archive {
 archive!("dgemm" fn tl_dgemm(
     transa: i32, transb: i32, m: i32, n: i32, k: i32, alpha: f64, a: *const f64, a_len: usize, lda: i32,
     b: *const f64, b_len: usize, ldb: i32, beta: f64, c: *mut f64, c_len: usize, ldc: i32, w: i32, r: i32,
-));
+) -> i32);
 archive!("dsymm" fn tl_dsymm(
     side: i32, uplo: i32, m: i32, n: i32, alpha: f64, a: *const f64, a_len: usize, lda: i32,
     b: *const f64, b_len: usize, ldb: i32, beta: f64, c: *mut f64, c_len: usize, ldc: i32, w: i32, r: i32,
-));
+) -> i32);
 archive!("dsyrk" fn tl_dsyrk(
     uplo: i32, trans: i32, n: i32, k: i32, alpha: f64, a: *const f64, a_len: usize, lda: i32,
     beta: f64, c: *mut f64, c_len: usize, ldc: i32, w: i32, r: i32,
-));
+) -> i32);
 archive!("dsyr2k" fn tl_dsyr2k(
     uplo: i32, trans: i32, n: i32, k: i32, alpha: f64, a: *const f64, a_len: usize, lda: i32,
     b: *const f64, b_len: usize, ldb: i32, beta: f64, c: *mut f64, c_len: usize, ldc: i32, w: i32, r: i32,
-));
+) -> i32);
 archive!("dtrmm" fn tl_dtrmm(
     side: i32, uplo: i32, transa: i32, diag: i32, m: i32, n: i32, alpha: f64, a: *const f64, a_len: usize, lda: i32,
     b: *mut f64, b_len: usize, ldb: i32, w: i32, r: i32,
-));
+) -> i32);
 archive!("dtrsm" fn tl_dtrsm(
     side: i32, uplo: i32, transa: i32, diag: i32, m: i32, n: i32, alpha: f64, a: *const f64, a_len: usize, lda: i32,
     b: *mut f64, b_len: usize, ldb: i32, w: i32, r: i32,
-));
+) -> i32);
+
+archive!("run" fn tl_run(
+    sheet: *const i32, sheet_len: usize, scalars: *const f64, scalars_len: usize, x: *mut f64, x_len: usize,
+    y: *mut f64, y_len: usize, z: *mut f64, z_len: usize, answers: *mut i32, answers_len: usize,
+    p: i32, s: i32, budget: u32,
+) -> RunEnd);
 
 /// [`crate::gemm`] on raw codes and block sizes.
 #[inline]
@@ -114,4 +123,35 @@ pub fn trsm(
     let (a, a_len) = (a.as_ptr(), a.len());
     let (b, b_len) = (b.as_mut_ptr(), b.len());
     unsafe { tl_dtrsm(side, uplo, transa, diag, m, n, alpha, a, a_len, lda, b, b_len, ldb, w, r) }
+}
+
+/// What a run of a call sheet hands back.
+#[repr(C)]
+#[derive(Clone, Copy, Debug, PartialEq, Eq)]
+pub struct RunEnd {
+    /// 0, or the number of a refusal: 34, 35 or 36.
+    pub number: i32,
+    /// The new cursor's record; of a refused run, the one that it was given.
+    pub p: i32,
+    /// The new cursor's strip; of a refused run, the one that it was given.
+    pub s: i32,
+    /// The steps made.
+    pub steps: u32,
+}
+
+/// [`crate::run`] with the cursor (p, s).
+#[inline]
+pub fn run(
+    sheet: &[i32], scalars: &[f64], x: &mut [f64], y: &mut [f64], z: &mut [f64], answers: &mut [i32], p: i32, s: i32,
+    budget: u32,
+) -> RunEnd {
+    let (sheet, sheet_len) = (sheet.as_ptr(), sheet.len());
+    let (scalars, scalars_len) = (scalars.as_ptr(), scalars.len());
+    let (x, x_len) = (x.as_mut_ptr(), x.len());
+    let (y, y_len) = (y.as_mut_ptr(), y.len());
+    let (z, z_len) = (z.as_mut_ptr(), z.len());
+    let (answers, answers_len) = (answers.as_mut_ptr(), answers.len());
+    unsafe {
+        tl_run(sheet, sheet_len, scalars, scalars_len, x, x_len, y, y_len, z, z_len, answers, answers_len, p, s, budget)
+    }
 }

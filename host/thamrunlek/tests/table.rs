@@ -1,11 +1,11 @@
-//! The rows of document 01's table that are direct calls, through the safe functions. A row whose routine the archive
-//! does not have yet is left out.
+//! The rows of document 01's table, through the safe functions. A row whose routine the archive does not have yet is
+//! left out.
 
 use thamrunlek::Diagonal::{NonUnit, Unit};
 use thamrunlek::Side::Left;
 use thamrunlek::Transpose::No;
 use thamrunlek::Triangle::{Lower, Upper};
-use thamrunlek::{gemm, symm, syr2k, syrk, trmm, trsm, Blocks, Refusal, Routine, ROUTINES};
+use thamrunlek::{gemm, run, symm, syr2k, syrk, trmm, trsm, Blocks, Cursor, Refusal, Routine, ROUTINES};
 
 const P: f64 = 9007199254740992.0;
 
@@ -78,4 +78,34 @@ fn trsm_rows() {
     row(Routine::Trsm, &[1., P, -P], &[0., P, -P], |b, blocks| {
         trsm(Left, Upper, No, Unit, 3, 1, 1., &[1., 0., 0., 1., 1., 0., 1., 0., 1.], 3, b, 3, blocks)
     });
+}
+
+#[test]
+fn sheet_row() {
+    const N: i32 = 'N' as i32;
+    let sheet = [1, 0, 0, N, N, 0, 1, 3, 1, 0, 0, 1, 1, 0, 1, 2, 0, 1, 1, 64, 0, 1];
+    let (mut x, mut y, mut z, mut answers) = ([2.], [3., 4., 5.], [0.; 3], [7]);
+    let mut next = |cursor, budget| run(&sheet, &[1., 0.], &mut x, &mut y, &mut z, &mut answers, cursor, budget);
+    let first = next(Cursor::default(), 2).unwrap();
+    let second = next(first.cursor, 1).unwrap();
+    assert_eq!((first.cursor, first.steps), (Cursor { record: 0, strip: 2 }, 2));
+    assert_eq!((second.cursor, second.steps), (Cursor { record: 1, strip: 0 }, 1));
+    assert_eq!((z, answers), ([6., 8., 10.], [0]));
+}
+
+#[test]
+fn refused_runs() {
+    let refusal = |sheet: &[i32], answers: &mut [i32], record, strip| {
+        let cursor = Cursor { record, strip };
+        run(sheet, &[1., 0.], &mut [], &mut [], &mut [], answers, cursor, 1).unwrap_err()
+    };
+    let one = [[0; 20].as_slice(), &[0, 1]].concat();
+    let refusals = [refusal(&[0], &mut [], 0, 0), refusal(&one, &mut [], 0, 0), refusal(&one, &mut [0], 1, 1)];
+    assert_eq!(refusals.map(|refusal| refusal.number()), [34, 35, 36]);
+    let texts = [
+        "the sheet's last two words are not the index and the count of its records",
+        "fewer answers than records, or fewer scalars than twice as many",
+        "the cursor is at no record, or at no strip of an accepted one",
+    ];
+    assert_eq!(refusals.map(|refusal| refusal.to_string()), texts);
 }

@@ -1,0 +1,165 @@
+//! Made-up call sheets and what their runs are lent.
+
+use crate::cases::{options, value, width, with_leading, Values, VALUES};
+use crate::Random;
+use reference::machine::{Lent, RECORD};
+use reference::{needed, Call, Routine, ROUTINES};
+
+/// A call sheet, its scalars, and what its runs find.
+#[derive(Clone)]
+#[allow(missing_docs)]
+pub struct SheetCase {
+    pub sheet: Vec<i32>,
+    pub scalars: Vec<f64>,
+    pub lent: Lent,
+}
+
+/// An answer that no record gives.
+pub const UNANSWERED: i32 = -7;
+
+type Record = [i32; RECORD];
+
+/// The first words of A, B and C: the array, then the offset, then the leading dimension.
+const A: usize = 9;
+const B: usize = 12;
+const C: usize = 15;
+
+/// The words that a routine has.
+fn words(routine: Routine) -> &'static [usize] {
+    match routine {
+        Routine::Gemm => &[0, 3, 4, 6, 7, 8, 9, 10, 11, 12, 13, 14, 15, 16, 17, 18, 19],
+        Routine::Symm => &[0, 1, 2, 6, 7, 9, 10, 11, 12, 13, 14, 15, 16, 17, 18, 19],
+        Routine::Syrk => &[0, 2, 3, 7, 8, 9, 10, 11, 15, 16, 17, 18, 19],
+        Routine::Syr2k => &[0, 2, 3, 7, 8, 9, 10, 11, 12, 13, 14, 15, 16, 17, 18, 19],
+        Routine::Trmm | Routine::Trsm => &[0, 1, 2, 3, 5, 6, 7, 9, 10, 11, 12, 13, 14, 18, 19],
+    }
+}
+
+/// What stands in words that are not read.
+fn noise(random: &mut Random) -> i32 {
+    let any = random.bits() as i32;
+    random.pick(&[any, any, i32::MIN, -1, 0, 1, 2, 3, 65, 'N' as i32, i32::MAX])
+}
+
+/// A good call, of sizes to `top`, most often in narrow strips.
+fn call(random: &mut Random, top: i32) -> Call {
+    let routine = random.pick(&ROUTINES);
+    let (narrow, any) = (random.from(1, 4), width(random));
+    let call = Call {
+        m: random.from(0, top),
+        n: random.from(0, top),
+        k: random.from(0, top),
+        w: random.pick(&[narrow, narrow, any]),
+        r: width(random),
+        ..options(random, routine)
+    };
+    with_leading(random, call)
+}
+
+/// The record of a good call. Its matrices lie anywhere in the arrays, which become as long as they ask for.
+fn record(random: &mut Random, call: &Call, lengths: &mut [usize; 3]) -> Record {
+    let output = random.from(0, 2);
+    let inputs = [(); 2].map(|_| (output + random.from(1, 2)) % 3);
+    let mut matrix = |array: i32, ld: i32, (rows, cols): (i32, i32)| {
+        let offset = random.from(0, 6);
+        let length = &mut lengths[array as usize];
+        *length = (*length).max(offset as usize + needed(ld, rows, cols));
+        [array, offset, ld]
+    };
+    let out = matrix(output, call.ld_of_output(), call.shape_of_output());
+    let a = matrix(inputs[0], call.lda, call.stored_a());
+    let has_b = words(call.routine).contains(&B) && !call.routine.in_place();
+    let b = if has_b { matrix(inputs[1], call.ldb, call.stored_b()) } else { out };
+    let Call { side, uplo, transa, transb, diag, m, n, k, w, r, .. } = *call;
+    let head = [call.routine as i32, side, uplo, transa, transb, diag, m, n, k];
+    let mut record: Record = [&head[..], &a, &b, &out, &[w, r]].concat().try_into().expect("all words");
+    (0..RECORD).filter(|word| !words(call.routine).contains(word)).for_each(|word| record[word] = noise(random));
+    record
+}
+
+/// Changes a word that the routine has, most often to a bad one.
+fn spoil(random: &mut Random, record: &mut Record, routine: Routine, lengths: &[usize; 3]) {
+    let word = random.pick(words(routine));
+    let was = record[word];
+    record[word] = match word {
+        0 => random.pick(&[0, 7, -1, i32::MIN, i32::MAX]),
+        1..=5 => random.pick(&[0, 88, 'A' as i32, -1, was.wrapping_add(256)]),
+        6..=8 => random.pick(&[-1, -2, i32::MIN, i32::MAX]),
+        A | B | C => random.pick(&[-1, 3, 0, 1, 2, i32::MIN, i32::MAX]),
+        10 | 13 | 16 => {
+            let length = lengths.get(record[word - 1] as usize).map_or(0, |&length| length as i32);
+            random.pick(&[-1, length, length, length - 1, length + 1, i32::MIN, i32::MAX])
+        }
+        11 | 14 | 17 => {
+            let (under, over) = (was.wrapping_sub(1), was.wrapping_add(50));
+            random.pick(&[-1, under, under, over, over, i32::MIN, i32::MAX])
+        }
+        _ => random.pick(&[0, -1, 65, i32::MIN, i32::MAX]),
+    };
+}
+
+/// The sheet of these records after some words that are not read, with sound lengths.
+fn lend(random: &mut Random, calls: &[Call], records: &[Record], lengths: [usize; 3], values: Values) -> SheetCase {
+    let before = random.pick(&[0, 0, 1, 20, 27]);
+    let mut sheet: Vec<i32> = (0..before).map(|_| noise(random)).collect();
+    sheet.extend(records.iter().flatten());
+    sheet.extend([before, records.len() as i32]);
+    let lent = Lent {
+        arrays: lengths.map(|length| (0..length).map(|_| value(random, values)).collect()),
+        answers: records.iter().map(|_| UNANSWERED).collect(),
+    };
+    SheetCase { sheet, scalars: calls.iter().flat_map(|call| [call.alpha, call.beta]).collect(), lent }
+}
+
+/// Another trailer: pointing elsewhere, or nowhere, or cut off.
+fn spoil_trailer(random: &mut Random, sheet: &mut Vec<i32>) {
+    let end = sheet.len() - 2;
+    let (index, count) = (sheet[end], sheet[end + 1]);
+    let others = [(index + 1, count), (index, count + 1), (index - 20, count + 1), (index + 20, count - 1)];
+    let (index, count) = random.pick(&others);
+    sheet.truncate(end);
+    sheet.extend([index, count]);
+    if random.once_in(4) {
+        sheet.truncate(random.from(0, 1) as usize);
+    }
+}
+
+/// One fewer than is needed, or some more, or what is needed.
+fn spare(random: &mut Random, length: usize) -> usize {
+    match random.from(0, 19) {
+        0 => length.saturating_sub(1),
+        1..=4 => length + 2,
+        _ => length,
+    }
+}
+
+/// A sheet of up to five records, a third of them spoiled in one word or several; now and then with a bad trailer, or
+/// too few answers or scalars.
+pub fn sheet(random: &mut Random) -> SheetCase {
+    let top = if random.once_in(8) { 30 } else { 9 };
+    let calls: Vec<Call> = (0..random.from(0, 5)).map(|_| call(random, top)).collect();
+    let mut lengths = [0; 3];
+    let mut records: Vec<Record> = calls.iter().map(|call| record(random, call, &mut lengths)).collect();
+    lengths.iter_mut().for_each(|length| *length += random.pick(&[0, 0, 1, 9]));
+    for (record, call) in records.iter_mut().zip(&calls) {
+        for _ in 0..random.pick(&[0, 0, 0, 0, 1, 4]) {
+            spoil(random, record, call.routine, &lengths);
+        }
+    }
+    let values = random.pick(&VALUES);
+    let mut case = lend(random, &calls, &records, lengths, values);
+    if random.once_in(15) {
+        spoil_trailer(random, &mut case.sheet);
+    }
+    case.lent.answers.resize(spare(random, records.len()), UNANSWERED);
+    case.scalars.resize(spare(random, 2 * records.len()), f64::NAN);
+    case
+}
+
+/// A sound sheet of forty good calls, in strips of one column or row.
+pub fn long(random: &mut Random) -> SheetCase {
+    let calls: Vec<Call> = (0..40).map(|_| Call { w: 1, alpha: 0.25, beta: 0.5, ..call(random, 60) }).collect();
+    let mut lengths = [0; 3];
+    let records: Vec<Record> = calls.iter().map(|call| record(random, call, &mut lengths)).collect();
+    lend(random, &calls, &records, lengths, Values::Tame)
+}

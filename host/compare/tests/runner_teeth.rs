@@ -1,0 +1,162 @@
+//! The comparison of runners can fail: each of these plausible and false runners is told apart from the plain machine.
+
+use compare::{compare_runs, sheet, Random, Runner};
+use reference::machine::{run, trailer, End, Lent, RECORD};
+
+/// The first of 2,000 made-up sheets on which the runner differs from the plain machine.
+fn told_apart(wrong: Runner) -> Option<u64> {
+    (0..2000).find(|&index| {
+        let mut random = Random::of("runner teeth", index);
+        let case = sheet(&mut random);
+        compare_runs(&case, &mut random, wrong, &run).is_err()
+    })
+}
+
+/// The count of a sheet's records, 0 if its trailer is bad.
+fn count(sheet: &[i32]) -> i32 {
+    trailer(sheet).map_or(0, |(_, count)| count as i32)
+}
+
+/// The sheet with its records changed.
+fn with_records(sheet: &[i32], change: impl Fn(&mut [i32])) -> Vec<i32> {
+    let mut sheet = sheet.to_vec();
+    if let Some((first, count)) = trailer(&sheet) {
+        sheet[first..first + RECORD * count].chunks_mut(RECORD).for_each(change);
+    }
+    sheet
+}
+
+/// A runner that makes its steps one by one: each by `step`, from a cursor that is not at the end.
+fn stepwise(
+    step: impl Fn(&[i32], &[f64], &mut Lent, i32, i32) -> End,
+) -> impl Fn(&[i32], &[f64], &mut Lent, i32, i32, u32) -> End {
+    move |sheet, scalars, lent, p, s, budget| {
+        let mut end = run(sheet, scalars, lent, p, s, 0);
+        while end.number == 0 && end.steps < budget && end.p < count(sheet) {
+            end = End { steps: end.steps + 1, ..step(sheet, scalars, lent, end.p, end.s) };
+        }
+        end
+    }
+}
+
+#[test]
+fn the_machine_by_single_steps_is_not_told_apart() {
+    let right = stepwise(|sheet, scalars, lent, p, s| run(sheet, scalars, lent, p, s, 1));
+    assert_eq!(told_apart(&right), None);
+}
+
+#[test]
+fn a_call_finished_at_its_first_strip_and_idle_steps_after_it() {
+    let wrong = stepwise(|sheet, scalars, lent, p, s| {
+        let mut first = lent.clone();
+        if s == 0 {
+            let widen = |record: &mut [i32]| record[18] = if (1..=64).contains(&record[18]) { 64 } else { record[18] };
+            run(&with_records(sheet, widen), scalars, &mut first, p, 0, 1);
+        }
+        let end = run(sheet, scalars, lent, p, s, 1);
+        lent.arrays = first.arrays;
+        end
+    });
+    assert!(told_apart(&wrong).is_some());
+}
+
+#[test]
+fn an_answer_at_the_first_strip() {
+    let wrong = stepwise(|sheet, scalars, lent, p, s| {
+        let end = run(sheet, scalars, lent, p, s, 1);
+        lent.answers[p as usize] = if end.p == p { 0 } else { lent.answers[p as usize] };
+        end
+    });
+    assert!(told_apart(&wrong).is_some());
+}
+
+#[test]
+fn an_invented_step_count() {
+    let wrong = |sheet: &[i32], scalars: &[f64], lent: &mut Lent, p, s, budget| {
+        let end = run(sheet, scalars, lent, p, s, budget);
+        End { steps: if end.number == 0 { budget } else { 0 }, ..end }
+    };
+    assert!(told_apart(&wrong).is_some());
+}
+
+#[test]
+fn a_refused_record_without_a_step() {
+    let wrong = |sheet: &[i32], scalars: &[f64], lent: &mut Lent, p, s, budget| {
+        let end = run(sheet, scalars, lent, p, s, budget);
+        let refused = if end.number == 0 { (p..end.p).filter(|&q| lent.answers[q as usize] != 0).count() } else { 0 };
+        End { steps: end.steps - refused as u32, ..end }
+    };
+    assert!(told_apart(&wrong).is_some());
+}
+
+#[test]
+fn finished_before_the_last_record() {
+    let wrong = |sheet: &[i32], scalars: &[f64], lent: &mut Lent, p, s, budget| {
+        let end = run(sheet, scalars, lent, p, s, budget);
+        let last = end.number == 0 && (end.p + 1, end.s) == (count(sheet), 0);
+        End { p: if last { end.p + 1 } else { end.p }, ..end }
+    };
+    assert!(told_apart(&wrong).is_some());
+}
+
+#[test]
+fn an_answer_for_a_refused_run() {
+    let wrong = |sheet: &[i32], scalars: &[f64], lent: &mut Lent, p, s, budget| {
+        let end = run(sheet, scalars, lent, p, s, budget);
+        if end.number != 0 {
+            lent.answers.iter_mut().take(1).for_each(|answer| *answer = end.number);
+        }
+        end
+    };
+    assert!(told_apart(&wrong).is_some());
+}
+
+#[test]
+fn further_answers_cleared() {
+    let wrong = |sheet: &[i32], scalars: &[f64], lent: &mut Lent, p, s, budget| {
+        let end = run(sheet, scalars, lent, p, s, budget);
+        if end.number == 0 {
+            lent.answers.iter_mut().skip(count(sheet) as usize).for_each(|answer| *answer = 0);
+        }
+        end
+    };
+    assert!(told_apart(&wrong).is_some());
+}
+
+#[test]
+fn the_array_of_a_matrix_that_syrk_lacks() {
+    let wrong = |sheet: &[i32], scalars: &[f64], lent: &mut Lent, p, s, budget| {
+        let refuse = |record: &mut [i32]| {
+            if record[0] == 3 && !(0..=2).contains(&record[12]) {
+                record[15] = record[12];
+            }
+        };
+        run(&with_records(sheet, refuse), scalars, lent, p, s, budget)
+    };
+    assert!(told_apart(&wrong).is_some());
+}
+
+#[test]
+fn widths_tested_before_arrays() {
+    let wrong = |sheet: &[i32], scalars: &[f64], lent: &mut Lent, p, s, budget| {
+        let sound = |record: &mut [i32]| {
+            if !(1..=64).contains(&record[18]) {
+                (0..3).for_each(|matrix| (record[9 + 3 * matrix], record[10 + 3 * matrix]) = (matrix as i32, 0));
+            }
+        };
+        run(&with_records(sheet, sound), scalars, lent, p, s, budget)
+    };
+    assert!(told_apart(&wrong).is_some());
+}
+
+#[test]
+fn a_call_taken_up_at_its_first_strip() {
+    let wrong = |sheet: &[i32], scalars: &[f64], lent: &mut Lent, p, s, budget| {
+        let end = run(sheet, scalars, lent, p, s, 0);
+        if end.number == 0 {
+            return run(sheet, scalars, lent, p, 0, budget);
+        }
+        end
+    };
+    assert!(told_apart(&wrong).is_some());
+}

@@ -1,0 +1,82 @@
+//! The library's runner and the plain machine agree bit for bit on call sheets, good and bad.
+
+use compare::{compare_runs, differ, library_run, seed, sheet, Random, SheetCase, UNANSWERED};
+use reference::machine::{run, trailer, RECORD};
+use std::collections::BTreeSet;
+
+/// Checks a case made from a generator of its own, and on a difference panics with what is needed to make it again.
+fn hold<T>(test: &str, index: u64, check: impl FnOnce(&mut Random) -> Result<T, String>) -> T {
+    check(&mut Random::of(test, index)).unwrap_or_else(|difference| {
+        panic!("{difference}\nseed {} (THAMRUNLEK_SEED), test {test}, case {index}", seed())
+    })
+}
+
+/// The first sheet that can be run from its beginning.
+fn sound_sheet(random: &mut Random) -> SheetCase {
+    loop {
+        let case = sheet(random);
+        if run(&case.sheet, &case.scalars, &mut case.lent.clone(), 0, 0, 0).number == 0 {
+            return case;
+        }
+    }
+}
+
+/// Sheets, cursors and budgets of all kinds. Every number that a run or a record can have comes up.
+#[test]
+fn runs_of_any_kind() {
+    let (mut of_runs, mut of_records) = (BTreeSet::new(), BTreeSet::new());
+    for index in 0..20_000 {
+        let (numbers, lent) = hold("runs", index, |random| {
+            let case = sheet(random);
+            compare_runs(&case, random, &library_run, &run)
+        });
+        of_runs.extend(numbers);
+        of_records.extend(lent.answers);
+    }
+    of_records.remove(&UNANSWERED);
+    assert_eq!(of_runs, BTreeSet::from([0, 34, 35, 36]));
+    assert_eq!(of_records, (0..=13).chain(30..=33).collect());
+}
+
+/// A list of runs from the beginning is the plain machine after the sum of their budgets: arrays, answers, cursor and
+/// the total of steps. No run of it is refused.
+#[test]
+fn a_list_of_runs_is_the_machine_after_the_sum_of_its_budgets() {
+    for index in 0..5_000 {
+        hold("lists", index, |random| {
+            let SheetCase { sheet, scalars, lent } = sound_sheet(random);
+            let (mut left, mut right) = (lent.clone(), lent);
+            let (mut p, mut s, mut steps, mut budgets) = (0, 0, 0, 0);
+            for _ in 0..random.from(0, 8) {
+                let budget = random.from(0, 7) as u32;
+                let end = library_run(&sheet, &scalars, &mut left, p, s, budget);
+                assert_eq!(end.number, 0);
+                (p, s, steps, budgets) = (end.p, end.s, steps + end.steps, budgets + budget);
+            }
+            let end = run(&sheet, &scalars, &mut right, 0, 0, budgets);
+            assert_eq!((p, s, steps), (end.p, end.s, end.steps));
+            differ(&left, &right).map_or(Ok(()), Err)
+        });
+    }
+}
+
+/// Two sheets that are alike except in their strip widths and block sizes leave the same arrays and answers.
+#[test]
+fn alike_sheets_finish_alike() {
+    for index in 0..5_000 {
+        hold("alike", index, |random| {
+            let SheetCase { sheet, scalars, lent } = sound_sheet(random);
+            let (first, count) = trailer(&sheet).expect("a sound trailer");
+            let (mut left, mut right) = (lent.clone(), lent);
+            for lent in [&mut left, &mut right] {
+                let mut alike = sheet.clone();
+                alike[first..first + RECORD * count].chunks_mut(RECORD).for_each(|record| {
+                    (record[18], record[19]) = (random.from(1, 64), random.from(1, 64));
+                });
+                let end = library_run(&alike, &scalars, lent, 0, 0, u32::MAX);
+                assert_eq!((end.number, end.p, end.s), (0, count as i32, 0));
+            }
+            differ(&left, &right).map_or(Ok(()), Err)
+        });
+    }
+}
