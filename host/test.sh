@@ -1,5 +1,5 @@
 #!/bin/bash
-# Tests the Rust host offline, after building the library's archive if it is missing. It writes to target/ only.
+# Tests the Rust host offline, and the portal frame in three languages, after building the library's archive if it is missing. It writes to target/ only.
 # Its last line is 'host: N tests passed', and anything else fails.
 set -euo pipefail
 cd "$(dirname "$0")/.."
@@ -16,4 +16,6 @@ log=$CARGO_TARGET_DIR/test.log
 (cd host && cargo test --offline --locked --release --workspace --no-fail-fast) 2>&1 | tee "$log" || fail "tests failed"
 passed=$(awk '/^test result: ok/ { n += $4 } END { print n + 0 }' "$log")
 [ "$passed" -gt 0 ] || fail "no test ran"
+host/portal_frame/languages.sh | tee "$log" || fail "the languages differ"
+[ "$(tail -n 1 "$log")" != "languages: the same bits in C, Fortran and Rust" ] || passed=$((passed + 1))
 echo "host: $passed tests passed"
