@@ -226,6 +226,13 @@ struct RunEnd tl_run(const int32_t *sheet, size_t sheet_len, const double *scala
                      double *x, size_t x_len, double *y, size_t y_len, double *z, size_t z_len,
                      int32_t *answers, size_t answers_len, int32_t p, int32_t s, uint32_t budget);
 
+/* The build of the library that is in use: "x86-64", "x86-64-v3" or "x86-64-v4", after the level of x86-64 that its
+ * processors have. The library has been compiled for each, from the same proved module, and takes the widest one that
+ * processor and operating system support, once, when it is loaded. The environment variable THAMRUNLEK_CPU names a
+ * narrower one to take. All of them give the same bits.
+ */
+const char *tl_cpu(void);
+
 #ifdef __cplusplus
 }
 #endif

@@ -1,6 +1,6 @@
 #!/bin/bash
-# Runs netlib's own test programs of the Level 3 BLAS on the drop-in library, at several strip widths and block sizes: xblat3d for the Fortran interface and
-# xdcblat3 for the C interface, each with the input that comes with it and with sizes to 65. They end with status 0 even when a routine fails, so what counts
+# Runs netlib's own test programs of the Level 3 BLAS on the drop-in library, on each build that the machine supports and at several strip widths and block
+# sizes: xblat3d for the Fortran interface and xdcblat3 for the C interface, each with the input that comes with it and with sizes to 65. They end with status 0 even when a routine fails, so what counts
 # is the number of their PASSED lines. A routine that does nothing is put in the place of each of ours in turn, to see that it fails.
 # It unpacks the programs (Debian's libblas-test) into target/testers and installs nothing. Its last line is 'netlib: all passed', and anything else fails.
 set -euo pipefail
@@ -17,6 +17,7 @@ ls "$work"/packages/libblas-test_*.deb > /dev/null 2>&1 || (cd "$work/packages" 
 dpkg -x "$work"/packages/libblas-test_*.deb "$work" || fail "cannot unpack libblas-test"
 programs=$(dirname "$(find "$work/usr" -name xblat3d)")
 
+host/library/build.sh
 export CARGO_TARGET_DIR=$PWD/target/host
 (cd host && cargo build --quiet --offline --locked --release -p thamrunlek_blas) || fail "the drop-in library does not build"
 ln -sf "$CARGO_TARGET_DIR/release/libthamrunlek_blas.so" "$work/lib/libblas.so.3"
@@ -38,13 +39,15 @@ passed() {
     cat "$work"/{log,dblat3.out} 2> /dev/null | grep -c ' PASSED THE ' || true
 }
 
-for blocks in '64 64' '3 2' '1 1'; do
-    read -r w r <<< "$blocks"
-    for program in xblat3d xdcblat3; do
-        for folder in "$programs" "$work"; do
-            count=$(passed $program "$folder" THAMRUNLEK_W=$w THAMRUNLEK_R=$r)
-            echo "$program, w = $w, r = $r, sizes to $([ "$folder" = "$work" ] && echo 65 || echo 9): $count of ${expected[$program]} passed"
-            [ "$count" = ${expected[$program]} ] || fail "$(cat "$work"/{log,dblat3.out} 2> /dev/null)"
+for cpu in $(host/library/supported.sh); do
+    for blocks in '64 64' '3 2' '1 1'; do
+        read -r w r <<< "$blocks"
+        for program in xblat3d xdcblat3; do
+            for folder in "$programs" "$work"; do
+                count=$(passed $program "$folder" THAMRUNLEK_CPU=$cpu THAMRUNLEK_W=$w THAMRUNLEK_R=$r)
+                echo "$cpu: $program, w = $w, r = $r, sizes to $([ "$folder" = "$work" ] && echo 65 || echo 9): $count of ${expected[$program]} passed"
+                [ "$count" = ${expected[$program]} ] || fail "$(cat "$work"/{log,dblat3.out} 2> /dev/null)"
+            done
         done
     done
 done

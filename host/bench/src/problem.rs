@@ -45,12 +45,13 @@ impl Problem {
         Problem { routine, options, n, a, b: numbers(n * n, 2), start: numbers(n * n, 3) }
     }
 
-    /// Floating-point operations, as usually counted.
-    pub fn operations(&self) -> f64 {
+    /// GFLOP/s of a call that takes so many seconds; operations as they are usually counted.
+    pub fn rate(&self, seconds: f64) -> f64 {
         let cube = (self.n * self.n * self.n) as f64;
-        match self.routine {
+        let operations = match self.routine {
             Routine::Gemm | Routine::Symm | Routine::Syr2k => 2.0 * cube,
             Routine::Syrk | Routine::Trmm | Routine::Trsm => cube,
-        }
+        };
+        operations / seconds * 1e-9
     }
 }

@@ -1,7 +1,8 @@
 //! SYRK of order 512 against three nested loops: n = k = 512, uplo L, trans N, α = 1, β = 0.
 
+use crate::measure::median;
 use crate::problem::numbers;
-use std::time::Instant;
+use crate::seconds;
 use thamrunlek::raw;
 
 const N: usize = 512;
@@ -21,15 +22,8 @@ fn loops(a: &[f64], c: &mut [f64]) {
 }
 
 /// The median time of nine calls, in milliseconds.
-fn median(mut call: impl FnMut()) -> f64 {
-    let mut times = [0.0; CALLS];
-    for time in &mut times {
-        let start = Instant::now();
-        call();
-        *time = start.elapsed().as_secs_f64() * 1e3;
-    }
-    times.sort_by(f64::total_cmp);
-    times[CALLS / 2]
+fn milliseconds(mut call: impl FnMut()) -> f64 {
+    1e3 * median((0..CALLS).map(|_| seconds(1, &mut call)).collect())
 }
 
 /// Prints both times and the best pair of strip width and block size.
@@ -37,12 +31,12 @@ pub fn report() {
     let a = numbers(N * N, 1);
     let mut expected = numbers(N * N, 3);
     let mut c = expected.clone();
-    let time_of_loops = median(|| loops(&a, &mut expected));
+    let time_of_loops = milliseconds(|| loops(&a, &mut expected));
     let (n, letter_l, letter_n) = (N as i32, 'L' as i32, 'N' as i32);
     let mut best = (f64::INFINITY, 0, 0);
     for w in [8, 16, 32, 48, 64] {
         for r in [8, 16, 32, 48, 64] {
-            let time = median(|| {
+            let time = milliseconds(|| {
                 raw::syrk(letter_l, letter_n, n, n, 1.0, &a, n, 0.0, &mut c, n, w, r);
             });
             assert!(c.iter().zip(&expected).all(|(x, y)| x.to_bits() == y.to_bits()), "the bits differ");

@@ -1,9 +1,11 @@
 //! What a step of a call sheet costs beside the strip that it makes: sheets of many tiny calls, each of one strip,
 //! against the same calls made directly, by turns.
 
+use crate::measure::median;
+use crate::own::{Own, BLOCKS};
 use crate::problem::{variants, Problem};
-use crate::{seconds, time_library};
-use thamrunlek::{raw, ROUTINES};
+use crate::seconds;
+use thamrunlek::{raw, Routine};
 
 const N: i32 = 4;
 const RECORDS: usize = 1000;
@@ -34,16 +36,11 @@ fn step(sheet: &[i32], scalars: &[f64], problem: &Problem, z: &mut [f64]) -> f64
     time / RECORDS as f64
 }
 
-/// The median, in nanoseconds.
-fn median(mut times: Vec<f64>) -> f64 {
-    times.sort_by(f64::total_cmp);
-    times[times.len() / 2] * 1e9
-}
-
 /// Prints the time of a step with nothing to do, and for each routine those of a step and of a direct call.
 pub fn report() {
+    let own = Own::linked();
     println!("ns: nanoseconds at n = {N}, medians of {ROUNDS} rounds of {RECORDS} steps or calls");
-    for (&routine, number) in ROUTINES.iter().zip(1..) {
+    for (routine, number) in Routine::ALL.into_iter().zip(1..) {
         let options = variants(routine)[0];
         let problem = Problem::new(routine, options, N as usize);
         let (sheet, scalars) = (sheet(number, options), [1.0, 0.0].repeat(RECORDS));
@@ -53,14 +50,14 @@ pub fn report() {
             steps.push(step(&sheet, &scalars, &problem, &mut z));
             let run = z.clone();
             z.copy_from_slice(&problem.start);
-            calls.push(time_library(&problem, &mut z, RECORDS as u32));
+            calls.push(own.time(&problem, &mut z, RECORDS as u32, BLOCKS));
             assert!(z.iter().zip(&run).all(|(x, y)| x.to_bits() == y.to_bits()), "the bits differ");
         }
-        let (step, call) = (median(steps), median(calls));
+        let (step, call) = (1e9 * median(steps), 1e9 * median(calls));
         println!("{:7} step {step:6.0} ns, direct call {call:6.0} ns, more by {:6.0} ns", routine.name(), step - call);
     }
-    let problem = Problem::new(ROUTINES[0], variants(ROUTINES[0])[0], N as usize);
+    let problem = Problem::new(Routine::Gemm, b"NN", N as usize);
     let (sheet, scalars) = (sheet(1, b"NN"), [0.0, 1.0].repeat(RECORDS));
     let times = (0..ROUNDS).map(|_| step(&sheet, &scalars, &problem, &mut problem.start.clone()));
-    println!("DGEMM with nothing to do: step {:6.0} ns", median(times.collect()));
+    println!("DGEMM with nothing to do: step {:6.0} ns", 1e9 * median(times.collect()));
 }

@@ -7,13 +7,14 @@
 #![forbid(unsafe_code)]
 #![deny(missing_docs)]
 
+pub mod calls;
 mod cases;
 mod random;
 mod runs;
 mod saved;
 mod sheets;
 
-pub use cases::{accepted, extreme, large, Case};
+pub use cases::{accepted, Case};
 pub use random::{cases, seed, Random};
 pub use runs::{compare_runs, differ, library_run, Runner};
 pub use saved::Saved;
@@ -23,19 +24,6 @@ use reference::{Call, Routine};
 
 /// An implementation: arguments, A, B and the output, which is C, or B for TRMM and TRSM; it gives a number.
 pub type Implementation<'f> = &'f dyn Fn(&Call, &[f64], &[f64], &mut [f64]) -> i32;
-
-/// The routines that the library has.
-pub fn routines() -> Vec<Routine> {
-    let of = |routine: &thamrunlek::Routine| match routine {
-        thamrunlek::Routine::Gemm => Routine::Gemm,
-        thamrunlek::Routine::Symm => Routine::Symm,
-        thamrunlek::Routine::Syrk => Routine::Syrk,
-        thamrunlek::Routine::Syr2k => Routine::Syr2k,
-        thamrunlek::Routine::Trmm => Routine::Trmm,
-        thamrunlek::Routine::Trsm => Routine::Trsm,
-    };
-    thamrunlek::ROUTINES.iter().map(of).collect()
-}
 
 /// The library.
 pub fn library(call: &Call, a: &[f64], b: &[f64], out: &mut [f64]) -> i32 {

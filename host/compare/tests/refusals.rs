@@ -1,7 +1,7 @@
 //! The library refuses what document 01 refuses, with its numbers and in its order, and nothing else.
 
-use compare::{accepted, compare, extreme, hold, library, routines, Case, Random};
-use reference::{direct, needed, Call, Routine};
+use compare::{accepted, calls, compare, hold, library, Case, Random};
+use reference::{direct, needed, Call, Routine, ROUTINES};
 
 #[derive(Clone, Copy, Debug, PartialEq)]
 enum Argument {
@@ -103,7 +103,7 @@ fn refused(test: &str, index: u64, routine: Routine, bad: &[(i32, Argument)]) {
 
 #[test]
 fn each_bad_argument_has_its_number() {
-    for routine in routines() {
+    for routine in ROUTINES {
         for (bad, place) in arguments(routine).iter().zip(0..) {
             for round in 0..100 {
                 refused(&format!("one bad {routine:?}"), 100 * place + round, routine, &[*bad]);
@@ -114,7 +114,7 @@ fn each_bad_argument_has_its_number() {
 
 #[test]
 fn the_first_of_several_bad_arguments_counts() {
-    for routine in routines() {
+    for routine in ROUTINES {
         let arguments = arguments(routine);
         let mut index = 0;
         for first in 0..arguments.len() {
@@ -138,7 +138,7 @@ fn the_first_of_several_bad_arguments_counts() {
 
 #[test]
 fn every_code_is_accepted_or_refused_as_it_should_be() {
-    for routine in routines() {
+    for routine in ROUTINES {
         for (number, argument) in arguments(routine) {
             let letters = match argument {
                 Side => "LlRr",
@@ -168,19 +168,18 @@ fn every_code_is_accepted_or_refused_as_it_should_be() {
 
 #[test]
 fn numbers_from_the_ends_of_their_range() {
-    for routine in routines() {
+    for routine in ROUTINES {
         let mut accepted = 0;
-        for index in 0..20_000 {
-            let number = hold(&format!("extreme {routine:?}"), index, |random| extreme(random, routine));
-            accepted += (number == 0) as i32;
-        }
+        calls::ends_of_the_range(routine, &mut |test, index, make| {
+            accepted += (hold(test, index, make) == 0) as i32;
+        });
         assert!(accepted > 500, "{routine:?}: {accepted}");
     }
 }
 
 #[test]
 fn a_width_is_good_from_1_to_64() {
-    for routine in routines() {
+    for routine in ROUTINES {
         for w in (-70..=140).chain([i32::MIN, i32::MAX]) {
             for (index, other) in [1, 64].into_iter().enumerate() {
                 let expected = if (1..=64).contains(&w) { 0 } else { 30 };

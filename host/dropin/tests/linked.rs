@@ -1,5 +1,5 @@
 //! A C program links the drop-in library, shared and static; its own handlers of bad arguments take precedence; the
-//! environment sets the block sizes.
+//! environment sets the block sizes and the build.
 
 use std::path::PathBuf;
 use std::process::Command;
@@ -88,4 +88,18 @@ fn the_environment_sets_the_block_sizes() {
         "thamrunlek: THAMRUNLEK_W is \"65\" and not a number from 1 to 64; 64 is taken\n\
          thamrunlek: THAMRUNLEK_R is \"many\" and not a number from 1 to 64; 64 is taken\n"
     );
+}
+
+#[test]
+fn the_environment_sets_the_build() {
+    for shared in [false, true] {
+        let program = compiled("build", shared, &["-DOWN", "-DOWN_CBLAS"]);
+        let [output, errors] = run(program.clone(), &[("THAMRUNLEK_CPU", "x86-64")]);
+        assert_eq!((output.ends_with(RESULTS), errors.as_str()), (true, ""));
+
+        let [output, errors] = run(program, &[("THAMRUNLEK_CPU", "8086")]);
+        assert!(output.ends_with(RESULTS));
+        let said = "thamrunlek: THAMRUNLEK_CPU is \"8086\", which this library has no build for; x86-64";
+        assert!(errors.starts_with(said) && errors.lines().count() == 1, "{errors}");
+    }
 }

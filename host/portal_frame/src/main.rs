@@ -22,7 +22,11 @@ fn main() -> ExitCode {
         }
     };
     let (runs, total): (usize, u32) = (finished.steps.len(), finished.steps.iter().sum());
-    println!("Portal frame: a call sheet of {} records,", finished.answers.len());
+    println!(
+        "Portal frame: a call sheet of {} records, on the build for {},",
+        finished.answers.len(),
+        thamrunlek::cpu()
+    );
     println!("made in {total} steps by {runs} runs of at most {BUDGET}; answers {:?}\n", finished.answers);
 
     let (x, m) = (&finished.response.displacements, &finished.response.moments);

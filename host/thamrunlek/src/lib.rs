@@ -39,21 +39,12 @@ pub use options::{Blocks, Diagonal, Side, Transpose, Triangle};
 pub use refusal::{Refusal, Routine};
 pub use sheet::{run, Cursor, Ran, RunRefusal};
 
-/// The routines that the archive has.
-pub const ROUTINES: &[Routine] = &[
-    #[cfg(linked = "dgemm")]
-    Routine::Gemm,
-    #[cfg(linked = "dsymm")]
-    Routine::Symm,
-    #[cfg(linked = "dsyrk")]
-    Routine::Syrk,
-    #[cfg(linked = "dsyr2k")]
-    Routine::Syr2k,
-    #[cfg(linked = "dtrmm")]
-    Routine::Trmm,
-    #[cfg(linked = "dtrsm")]
-    Routine::Trsm,
-];
+/// The build of the library that is in use: `x86-64`, `x86-64-v3` or `x86-64-v4`, after the level of x86-64 that its
+/// processors have. The library takes the widest one that processor and operating system support, once, when it is
+/// loaded; the environment variable `THAMRUNLEK_CPU` names a narrower one to take. All of them give the same bits.
+pub fn cpu() -> &'static str {
+    raw::cpu()
+}
 
 /// C ← α·op(A)·op(B) + β·C. op(A) is m by k, op(B) k by n and C m by n.
 pub fn gemm(

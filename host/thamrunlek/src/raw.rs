@@ -9,52 +9,42 @@
 
 #![allow(unsafe_code)]
 
-/// Declares a function of the archive. One that routines.txt does not list yet panics when it is called.
-macro_rules! archive {
-    ($linked:tt fn $name:ident($($argument:ident: $type:ty),* $(,)?) -> $result:ty) => {
-        #[cfg(linked = $linked)]
-        extern "C" {
-            /// The C function, as include/thamrunlek.h describes it.
-            pub fn $name($($argument: $type),*) -> $result;
-        }
-        #[cfg(not(linked = $linked))]
-        #[allow(missing_docs)]
-        pub unsafe fn $name($(_: $type),*) -> $result {
-            panic!(concat!("the archive has no ", stringify!($name)))
-        }
-    };
+use std::ffi::{c_char, CStr};
+
+// The functions themselves, as include/thamrunlek.h describes them.
+#[allow(missing_docs)]
+extern "C" {
+    pub fn tl_dgemm(
+        transa: i32, transb: i32, m: i32, n: i32, k: i32, alpha: f64, a: *const f64, a_len: usize, lda: i32,
+        b: *const f64, b_len: usize, ldb: i32, beta: f64, c: *mut f64, c_len: usize, ldc: i32, w: i32, r: i32,
+    ) -> i32;
+    pub fn tl_dsymm(
+        side: i32, uplo: i32, m: i32, n: i32, alpha: f64, a: *const f64, a_len: usize, lda: i32, b: *const f64,
+        b_len: usize, ldb: i32, beta: f64, c: *mut f64, c_len: usize, ldc: i32, w: i32, r: i32,
+    ) -> i32;
+    pub fn tl_dsyrk(
+        uplo: i32, trans: i32, n: i32, k: i32, alpha: f64, a: *const f64, a_len: usize, lda: i32, beta: f64,
+        c: *mut f64, c_len: usize, ldc: i32, w: i32, r: i32,
+    ) -> i32;
+    pub fn tl_dsyr2k(
+        uplo: i32, trans: i32, n: i32, k: i32, alpha: f64, a: *const f64, a_len: usize, lda: i32, b: *const f64,
+        b_len: usize, ldb: i32, beta: f64, c: *mut f64, c_len: usize, ldc: i32, w: i32, r: i32,
+    ) -> i32;
+    pub fn tl_dtrmm(
+        side: i32, uplo: i32, transa: i32, diag: i32, m: i32, n: i32, alpha: f64, a: *const f64, a_len: usize,
+        lda: i32, b: *mut f64, b_len: usize, ldb: i32, w: i32, r: i32,
+    ) -> i32;
+    pub fn tl_dtrsm(
+        side: i32, uplo: i32, transa: i32, diag: i32, m: i32, n: i32, alpha: f64, a: *const f64, a_len: usize,
+        lda: i32, b: *mut f64, b_len: usize, ldb: i32, w: i32, r: i32,
+    ) -> i32;
+    pub fn tl_run(
+        sheet: *const i32, sheet_len: usize, scalars: *const f64, scalars_len: usize, x: *mut f64, x_len: usize,
+        y: *mut f64, y_len: usize, z: *mut f64, z_len: usize, answers: *mut i32, answers_len: usize, p: i32, s: i32,
+        budget: u32,
+    ) -> RunEnd;
+    pub fn tl_cpu() -> *const c_char;
 }
-
-archive!("dgemm" fn tl_dgemm(
-    transa: i32, transb: i32, m: i32, n: i32, k: i32, alpha: f64, a: *const f64, a_len: usize, lda: i32,
-    b: *const f64, b_len: usize, ldb: i32, beta: f64, c: *mut f64, c_len: usize, ldc: i32, w: i32, r: i32,
-) -> i32);
-archive!("dsymm" fn tl_dsymm(
-    side: i32, uplo: i32, m: i32, n: i32, alpha: f64, a: *const f64, a_len: usize, lda: i32,
-    b: *const f64, b_len: usize, ldb: i32, beta: f64, c: *mut f64, c_len: usize, ldc: i32, w: i32, r: i32,
-) -> i32);
-archive!("dsyrk" fn tl_dsyrk(
-    uplo: i32, trans: i32, n: i32, k: i32, alpha: f64, a: *const f64, a_len: usize, lda: i32,
-    beta: f64, c: *mut f64, c_len: usize, ldc: i32, w: i32, r: i32,
-) -> i32);
-archive!("dsyr2k" fn tl_dsyr2k(
-    uplo: i32, trans: i32, n: i32, k: i32, alpha: f64, a: *const f64, a_len: usize, lda: i32,
-    b: *const f64, b_len: usize, ldb: i32, beta: f64, c: *mut f64, c_len: usize, ldc: i32, w: i32, r: i32,
-) -> i32);
-archive!("dtrmm" fn tl_dtrmm(
-    side: i32, uplo: i32, transa: i32, diag: i32, m: i32, n: i32, alpha: f64, a: *const f64, a_len: usize, lda: i32,
-    b: *mut f64, b_len: usize, ldb: i32, w: i32, r: i32,
-) -> i32);
-archive!("dtrsm" fn tl_dtrsm(
-    side: i32, uplo: i32, transa: i32, diag: i32, m: i32, n: i32, alpha: f64, a: *const f64, a_len: usize, lda: i32,
-    b: *mut f64, b_len: usize, ldb: i32, w: i32, r: i32,
-) -> i32);
-
-archive!("run" fn tl_run(
-    sheet: *const i32, sheet_len: usize, scalars: *const f64, scalars_len: usize, x: *mut f64, x_len: usize,
-    y: *mut f64, y_len: usize, z: *mut f64, z_len: usize, answers: *mut i32, answers_len: usize,
-    p: i32, s: i32, budget: u32,
-) -> RunEnd);
 
 /// [`crate::gemm`] on raw codes and block sizes.
 #[inline]
@@ -154,4 +144,9 @@ pub fn run(
     unsafe {
         tl_run(sheet, sheet_len, scalars, scalars_len, x, x_len, y, y_len, z, z_len, answers, answers_len, p, s, budget)
     }
+}
+
+/// [`crate::cpu`].
+pub fn cpu() -> &'static str {
+    unsafe { CStr::from_ptr(tl_cpu()) }.to_str().expect("a name in ASCII")
 }

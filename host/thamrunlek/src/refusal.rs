@@ -20,6 +20,10 @@ pub enum Routine {
 }
 
 impl Routine {
+    /// All of them, in the order of their numbers in a call sheet.
+    pub const ALL: [Routine; 6] =
+        [Routine::Gemm, Routine::Symm, Routine::Syrk, Routine::Syr2k, Routine::Trmm, Routine::Trsm];
+
     /// The routine's name in the BLAS, in capitals.
     pub fn name(self) -> &'static str {
         match self {

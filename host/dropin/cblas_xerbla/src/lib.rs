@@ -22,7 +22,7 @@ extern "C" {
 pub unsafe extern "C" fn cblas_xerbla(number: i32, name: *const c_char, _form: *const c_char) {
     let name = CStr::from_ptr(name).to_string_lossy();
     let number = if RowMajorStrg.load(Relaxed) != 0 { by_rows(&name, number) } else { number };
-    let argument = thamrunlek::ROUTINES
+    let argument = thamrunlek::Routine::ALL
         .iter()
         .find(|routine| name.strip_prefix("cblas_") == Some(routine.name().to_lowercase().as_str()))
         .and_then(|routine| ["layout"].iter().chain(routine.arguments()).zip(1..).find(|(_, place)| *place == number));

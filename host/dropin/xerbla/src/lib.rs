@@ -29,7 +29,7 @@ pub unsafe extern "C" fn xerbla_(name: *const u8, number: *const i32, name_len: 
         cblas_xerbla(number + 1, name.as_ptr(), c"".as_ptr());
         return;
     }
-    let argument = thamrunlek::ROUTINES
+    let argument = thamrunlek::Routine::ALL
         .iter()
         .find(|routine| routine.name() == name)
         .and_then(|routine| routine.arguments().iter().zip(1..).find(|(_, place)| *place == number));

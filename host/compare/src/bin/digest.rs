@@ -1,0 +1,54 @@
+//! Makes all calls and sheets of the comparison with the library alone and prints one line: the build in use, how many
+//! results there were, and their digest. The digest is the same for every build on every machine.
+
+use compare::{calls, compare_runs, library, library_run, sheet, Case, Random};
+use reference::machine::{End, Lent};
+use reference::ROUTINES;
+use std::cell::RefCell;
+
+/// A digest of numbers and elements; all NaNs are alike.
+#[derive(Default)]
+struct Digest {
+    state: u64,
+    results: u32,
+}
+
+impl Digest {
+    fn add(&mut self, word: u64) {
+        self.state = (self.state.rotate_left(5) ^ word).wrapping_mul(0x517c_c1b7_2722_0a95);
+    }
+
+    fn add_result(&mut self, numbers: &[i32], arrays: &[&[f64]]) {
+        numbers.iter().for_each(|&number| self.add(number as u64));
+        let bits = |x: &f64| if x.is_nan() { f64::NAN.to_bits() } else { x.to_bits() };
+        arrays.iter().for_each(|array| array.iter().for_each(|x| self.add(bits(x))));
+        self.results += 1;
+    }
+}
+
+fn main() {
+    let digest = RefCell::new(Digest::default());
+    for routine in ROUTINES {
+        for calls in calls::ALL {
+            calls(routine, &mut |test, index, make| {
+                let Case { call, a: [a, _], b: [b, _], out: [mut out, _] } = make(&mut Random::of(test, index));
+                let number = library(&call, &a, &b, &mut out);
+                digest.borrow_mut().add_result(&[number], &[&out]);
+            });
+        }
+    }
+    let recorded = |words: &[i32], scalars: &[f64], lent: &mut Lent, p: i32, s: i32, budget: u32| {
+        let end = library_run(words, scalars, lent, p, s, budget);
+        let End { number, p, s, steps } = end;
+        let numbers = [&[number, p, s, steps as i32], &lent.answers[..]].concat();
+        digest.borrow_mut().add_result(&numbers, &lent.arrays.each_ref().map(|array| &array[..]));
+        end
+    };
+    for index in 0..20_000 {
+        let mut random = Random::of("runs", index);
+        let case = sheet(&mut random);
+        compare_runs(&case, &mut random, &recorded, &library_run).expect("a run gives the same again");
+    }
+    let Digest { state, results } = digest.into_inner();
+    println!("{}: {results} results, digest {state:016x}", thamrunlek::cpu());
+}
