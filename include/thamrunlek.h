@@ -37,13 +37,13 @@ extern "C" {
  *  6  alpha   factor of the product. If it is zero, A and B are not read and may be of any length.
  *  7  a       A: m by k for transa N, else k by m. It is only read. a_len elements; with fewer than A needs the call
  *             is refused, unless m, n, k or alpha is zero.
- *  8  lda     leading dimension of A: at least the rows that A is stored with, and at least 0.
+ *  8  lda     leading dimension of A: at least the rows that A is stored with, and at least 1.
  *  9  b       B: k by n for transb N, else n by k. It is only read. b_len elements, tested like those of A.
  * 10  ldb     leading dimension of B, in the same way.
  * 11  beta    factor of the old C. If it is zero, the old C is not read.
  * 12  c       C, m by n: read and written. c_len elements; with fewer than C needs the call is refused, unless m or n
  *             is zero. Elements that are no entry of C keep their bits.
- * 13  ldc     leading dimension of C: at least m.
+ * 13  ldc     leading dimension of C: at least m, and at least 1.
  * 30  w       strip width: the columns of C that are worked on at a time, 1 to 64. 64 is a good choice.
  * 30  r       block size: the rows and terms that are worked on at a time, 1 to 64. 64 is a good choice.
  */
@@ -61,13 +61,13 @@ int32_t tl_dgemm(int32_t transa, int32_t transb, int32_t m, int32_t n, int32_t k
  *  5  alpha   factor of the product. If it is zero, A and B are not read and may be of any length.
  *  6  a       A, m by m for side L, n by n for side R. It is only read. a_len elements; with fewer than A needs the
  *             call is refused, unless m, n or alpha is zero.
- *  7  lda     leading dimension of A: at least its order.
+ *  7  lda     leading dimension of A: at least its order, and at least 1.
  *  8  b       B, m by n. It is only read. b_len elements, tested like those of A.
- *  9  ldb     leading dimension of B: at least m.
+ *  9  ldb     leading dimension of B: at least m, and at least 1.
  * 10  beta    factor of the old C. If it is zero, the old C is not read.
  * 11  c       C, m by n: read and written. c_len elements; with fewer than C needs the call is refused, unless m or n
  *             is zero. Elements that are no entry of C keep their bits.
- * 12  ldc     leading dimension of C: at least m.
+ * 12  ldc     leading dimension of C: at least m, and at least 1.
  * 30  w       strip width, as for GEMM.
  * 30  r       block size, as for GEMM.
  */
@@ -85,11 +85,11 @@ int32_t tl_dsymm(int32_t side, int32_t uplo, int32_t m, int32_t n, double alpha,
  *  5  alpha   factor of the product. If it is zero, A is not read and may be of any length.
  *  6  a       A: n by k for trans N, else k by n. It is only read. a_len elements; with fewer than A needs the call is
  *             refused, unless n, k or alpha is zero.
- *  7  lda     leading dimension of A: at least the rows that A is stored with, and at least 0.
+ *  7  lda     leading dimension of A: at least the rows that A is stored with, and at least 1.
  *  8  beta    factor of the old C. If it is zero, the old C is not read.
  *  9  c       C, n by n: triangle uplo is read and written. c_len elements; with fewer than C needs the call is
  *             refused, unless n is zero. The other triangle, and elements that are no entry of C, keep their bits.
- * 10  ldc     leading dimension of C: at least n.
+ * 10  ldc     leading dimension of C: at least n, and at least 1.
  * 30  w       strip width, as for GEMM.
  * 30  r       block size, as for GEMM: the rows, columns and terms that are worked on at a time.
  */
@@ -107,13 +107,13 @@ int32_t tl_dsyrk(int32_t uplo, int32_t trans, int32_t n, int32_t k, double alpha
  *  5  alpha   factor of both products. If it is zero, A and B are not read and may be of any length.
  *  6  a       A: n by k for trans N, else k by n. It is only read. a_len elements; with fewer than A needs the call is
  *             refused, unless n, k or alpha is zero.
- *  7  lda     leading dimension of A: at least the rows that A is stored with, and at least 0.
+ *  7  lda     leading dimension of A: at least the rows that A is stored with, and at least 1.
  *  8  b       B: stored like A. It is only read. b_len elements, tested like those of A.
  *  9  ldb     leading dimension of B, in the same way.
  * 10  beta    factor of the old C. If it is zero, the old C is not read.
  * 11  c       C, n by n: triangle uplo is read and written. c_len elements; with fewer than C needs the call is
  *             refused, unless n is zero. The other triangle, and elements that are no entry of C, keep their bits.
- * 12  ldc     leading dimension of C: at least n.
+ * 12  ldc     leading dimension of C: at least n, and at least 1.
  * 30  w       strip width, as for GEMM.
  * 30  r       block size, as for SYRK.
  */
@@ -134,10 +134,10 @@ int32_t tl_dsyr2k(int32_t uplo, int32_t trans, int32_t n, int32_t k, double alph
  *             +0.0.
  *  8  a       A, m by m for side L, n by n for side R. It is only read. a_len elements; with fewer than A needs the
  *             call is refused, unless m, n or alpha is zero.
- *  9  lda     leading dimension of A: at least its order.
+ *  9  lda     leading dimension of A: at least its order, and at least 1.
  * 10  b       B, m by n: read and written. b_len elements; with fewer than B needs the call is refused, unless m or n
  *             is zero. Elements that are no entry of B keep their bits.
- * 11  ldb     leading dimension of B: at least m.
+ * 11  ldb     leading dimension of B: at least m, and at least 1.
  * 30  w       strip width, as for GEMM: the columns of B, or its rows for side R, that are worked on at a time.
  * 30  r       block size, as for GEMM.
  */
@@ -160,10 +160,10 @@ int32_t tl_dtrmm(int32_t side, int32_t uplo, int32_t transa, int32_t diag, int32
  *             +0.0.
  *  8  a       A, m by m for side L, n by n for side R. It is only read. a_len elements; with fewer than A needs the
  *             call is refused, unless m, n or alpha is zero.
- *  9  lda     leading dimension of A: at least its order.
+ *  9  lda     leading dimension of A: at least its order, and at least 1.
  * 10  b       B, m by n: read and written. b_len elements; with fewer than B needs the call is refused, unless m or n
  *             is zero. Elements that are no entry of B keep their bits.
- * 11  ldb     leading dimension of B: at least m.
+ * 11  ldb     leading dimension of B: at least m, and at least 1.
  * 30  w       strip width, as for TRMM.
  * 30  r       block size: the unknowns that are worked on at a time, 1 to 64. 64 is a good choice.
  */

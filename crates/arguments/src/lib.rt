@@ -143,11 +143,12 @@ fn bad_diag(code: i32) -> bool
 
 // ---- a leading dimension, a width
 
-// Below the stored rows of its matrix, or negative.
+// Below the larger of 1 and the stored rows of its matrix.
 fn bad_ld(ld: i32, s: Shape) -> bool
     ensures { λ r. ⌜ r ≡ Check.badLd ld s ⌝ }
 {
-    negative(ld) | (size(ld) < s.rows)
+    let n = size(ld);
+    (n < 1) | (n < s.rows)
 }
 
 // A strip width or block size that is not 1 to 64.

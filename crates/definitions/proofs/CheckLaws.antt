@@ -4,6 +4,7 @@ use mathlib.Core.Path.{_≡_, refl, sym, ap, subst, _∙_}
 use mathlib.Core.Bool.{Bool, true, false, not, _&&_, _||_, true≢false}
 use mathlib.Core.List.{List, [], _∷_, _++_}
 use Prim.Native.Nat.{ℕ, zero, suc, _≤_, _<_}
+use native.Mathlib.Nat.{le-trans, le-max-right}
 use native.Mathlib.Omega.{arith}
 use lib.Dec.{leb, ltb, eqb, eqb·suc-zero}
 use lib.IntN.{ℤ}
@@ -12,7 +13,7 @@ use borrow.Author.Tests.{eqb-true, eqb-false, leb-true, ltb-false}
 use Rattle.arrays.specs.Choice.{if_then_else_}
 use Rattle.arrays.proofs.Tests.{and-left, and-right, or-left, or-right}
 use Rattle.definitions.specs.Call.{inPlace, shapeB}
-use Rattle.definitions.specs.Check.{Argument, side, uplo, transa, transb, diag, size-m, size-n, size-k, ld-A, ld-B, ld-C, array-A, array-B, array-C, Place, places, arrays, nat, negative, badLd, bad, badWith, firstBad, badWidth, width, refusal, callOf, idle, checked}
+use Rattle.definitions.specs.Check.{Argument, side, uplo, transa, transb, diag, size-m, size-n, size-k, ld-A, ld-B, ld-C, array-A, array-B, array-C, Place, places, arrays, nat, badLd, bad, badWith, firstBad, badWidth, width, refusal, callOf, idle, checked}
 use Rattle.definitions.specs.declared.Routine.{Routine}
 use Rattle.definitions.specs.declared.Routine.the-variants.{Gemm, Symm, Syrk, Syr2k, Trmm, Trsm}
 use Rattle.definitions.specs.declared.Args.{Args}
@@ -200,7 +201,7 @@ module _ (g : Args) (x : Argument) where
 
 pub good-ld : (ld : ℤ) (s : Shape) → badLd ld s ≡ false → s .rows ≤ nat ld
 unfolding badLd
-good-ld ld s h = ltb-false (nat ld) (s .rows) (or-right (negative ld) (ltb (nat ld) (s .rows)) h)
+good-ld ld s h = le-trans (le-max-right _ _) (ltb-false _ _ h)
 
 -- the leading dimension of a B that is written over
 pub room-in-place : (w r : ℤ) (g : Args) → refusal w r g ≡ 0 → inPlace (g .routine) ≡ true → callOf g .m ≤ callOf g .ldb

@@ -166,6 +166,8 @@ products-in-turn = gives-is _ _ tt tt
 numbers :
     (direct (pos 88) (pos 1) (pos 1) (pos 64) (vec (0 ∷ 0 ∷ [])) .number ≡ pos 1)
     × (direct (pos 'N') (pos 2) (pos 1) (pos 64) (vec (0 ∷ 0 ∷ [])) .number ≡ pos 8)
+    -- document 02, K2: "A GEMM call with m = 0, transa N, lda = 0 and nothing else wrong gave 0 and now gives 8."
+    × (direct (pos 'N') (pos 0) (pos 0) (pos 64) (vec (0 ∷ 0 ∷ [])) .number ≡ pos 8)
     × (direct (pos 'N') (pos 1) (pos 1) (pos 64) [] .number ≡ pos 12)
     × (direct (pos 'N') (pos 1) (pos 1) (pos 65) (vec (0 ∷ 0 ∷ [])) .number ≡ pos 30)
     × (answersOf (recordOf 7 0 (pos 0) 2) ≡ pos 31 ∷ [])
@@ -176,7 +178,8 @@ numbers :
     × (numberOf (record { words = sheet .words; scalars = 1f ∷ [] }) (pos 0) (pos 0) ≡ pos 35 ∷ [])
     × (numberOf sheet (pos 1) (pos 1) ≡ pos 36 ∷ [])
     -- and accepted ones
+    × (direct (pos 'N') (pos 0) (pos 1) (pos 64) (vec (0 ∷ 0 ∷ [])) .number ≡ pos 0)
     × (answersOf (recordOf 3 0 (pos 0) 2) ≡ pos 0 ∷ [])
     × (numberOf sheet (pos 0) (pos 2) ≡ pos 0 ∷ [])
 unfolding opened
-numbers = (refl, refl, refl, refl, refl, refl, refl, refl, refl, refl, refl, refl, refl)
+numbers = (refl, refl, refl, refl, refl, refl, refl, refl, refl, refl, refl, refl, refl, refl, refl)

@@ -1,5 +1,5 @@
 -- The argument check of a direct call: codes, the table of places, the tests and their order, and its answer.
-use Prim.Native.Nat.{ℕ, _+_}
+use Prim.Native.Nat.{ℕ, _+_, max}
 use mathlib.Core.Bool.{Bool, true, false, not, _&&_, _||_}
 use mathlib.Core.List.{List, [], _∷_, _++_}
 use lib.Dec.{ltb, eqb}
@@ -127,9 +127,9 @@ arrays Trsm = array-A at 8 ∷ array-B at 10 ∷ []
 
 -- ---- the tests
 
--- "A leading dimension is bad if below the stored rows of its matrix, or negative."
+-- Document 02, K2: "a leading dimension is bad below the larger of 1 and the rows". (A negative one counts as 0, which is below 1.)
 unfoldable pub badLd : ℤ → Shape → Bool
-badLd ld s = negative ld || ltb (nat ld) (s .rows)
+badLd ld s = ltb (nat ld) (max 1 (s .rows))
 
 -- "array too short": shorter than it needs to be
 unfoldable pub short : ℕ → ℕ → Shape → Bool

@@ -12,8 +12,15 @@ pub type Each<'e> = &'e mut dyn FnMut(&str, u64, &dyn Fn(&mut Random) -> Case);
 pub type Calls = fn(Routine, Each);
 
 /// The calls of all tests.
-pub const ALL: [Calls; 6] =
-    [options_and_sizes, widths_and_block_sizes, random, around_multiples_of_64, beside_nans, ends_of_the_range];
+pub const ALL: [Calls; 7] = [
+    options_and_sizes,
+    widths_and_block_sizes,
+    random,
+    around_multiples_of_64,
+    beside_nans,
+    without_rows,
+    ends_of_the_range,
+];
 
 /// Letters in both cases.
 const SIDES: [char; 4] = ['L', 'l', 'R', 'r'];
@@ -121,6 +128,26 @@ pub fn beside_nans(routine: Routine, each: Each) {
                 case
             });
         }
+    }
+}
+
+/// Sizes of 0 and 3 in all combinations; each matrix in turn, where it has no rows, has a leading dimension of 0 and of 1.
+pub fn without_rows(routine: Routine, each: Each) {
+    let combinations = plain_combinations(routine);
+    for index in 0..48 * combinations.len() {
+        let (options, sizes, matrix, ld) = (&combinations[index / 48], index / 6 % 8, index / 2 % 3, index as i32 % 2);
+        let size = |bit: i32| if sizes >> bit & 1 == 0 { 0 } else { 3 };
+        each(&format!("without rows {routine:?}"), index as u64, &|random| {
+            let mut case = accepted(random, routine, |call| {
+                take_options(call, options);
+                (call.m, call.n, call.k) = (size(0), size(1), size(2));
+            });
+            let call = &mut case.call;
+            if [call.stored_a(), call.stored_b(), call.shape_of_output()][matrix].0 == 0 {
+                *[&mut call.lda, &mut call.ldb, &mut call.ldc][matrix] = ld;
+            }
+            case
+        });
     }
 }
 

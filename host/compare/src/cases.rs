@@ -139,7 +139,7 @@ pub(crate) fn width(random: &mut Random) -> i32 {
 
 /// A leading dimension for a matrix of so many rows.
 fn leading(random: &mut Random, rows: i32) -> i32 {
-    rows + random.pick(&[0, 0, 0, 1, 2, 5])
+    rows.max(1) + random.pick(&[0, 0, 0, 1, 2, 5])
 }
 
 /// Good leading dimensions for the call's options and sizes.
@@ -210,7 +210,7 @@ fn pair(
     mut value: impl FnMut(&mut Random, usize, usize) -> f64,
 ) -> [Vec<f64>; 2] {
     let mut pair = [(); 2].map(|_| (0..len).map(|_| filler(random)).collect::<Vec<f64>>());
-    let ld = ld.max(1) as usize;
+    let ld = ld as usize;
     for p in (0..len).filter(|p| reads(p % ld, p / ld)) {
         let value = value(random, p % ld, p / ld);
         pair[0][p] = value;

@@ -18,7 +18,7 @@ pub use cases::{accepted, Case};
 pub use random::{cases, seed, Random};
 pub use runs::{compare_runs, differ, library_run, Runner};
 pub use saved::Saved;
-pub use sheets::{long, sheet, SheetCase, UNANSWERED};
+pub use sheets::{long, of_call, sheet, SheetCase, UNANSWERED};
 
 use reference::{Call, Routine};
 

@@ -156,6 +156,13 @@ pub fn sheet(random: &mut Random) -> SheetCase {
     case
 }
 
+/// A sheet of this call alone, whose leading dimensions may be bad.
+pub fn of_call(random: &mut Random, call: Call) -> SheetCase {
+    let mut lengths = [0; 3];
+    let record = record(random, &call, &mut lengths);
+    lend(random, &[call], &[record], lengths, Values::Tame)
+}
+
 /// A sound sheet of forty good calls, in strips of one column or row.
 pub fn long(random: &mut Random) -> SheetCase {
     let calls: Vec<Call> = (0..40).map(|_| Call { w: 1, alpha: 0.25, beta: 0.5, ..call(random, 60) }).collect();

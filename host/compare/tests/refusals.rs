@@ -1,7 +1,8 @@
-//! The library refuses what document 01 refuses, with its numbers and in its order, and nothing else.
+//! The library refuses what documents 01 and 02 refuse, with their numbers and in their order, and nothing else.
 
 use compare::{accepted, calls, compare, hold, library, Case, Random};
 use reference::{direct, needed, Call, Routine, ROUTINES};
+use std::collections::BTreeSet;
 
 #[derive(Clone, Copy, Debug, PartialEq)]
 enum Argument {
@@ -174,6 +175,30 @@ fn numbers_from_the_ends_of_their_range() {
             accepted += (hold(test, index, make) == 0) as i32;
         });
         assert!(accepted > 500, "{routine:?}: {accepted}");
+    }
+}
+
+/// The leading dimension of a matrix without rows is bad if it is 0 and good if it is 1.
+#[test]
+fn a_leading_dimension_is_good_from_1_on() {
+    for routine in ROUTINES {
+        let mut numbers = BTreeSet::new();
+        calls::without_rows(routine, &mut |test, index, make| {
+            let call = make(&mut Random::of(test, index)).call;
+            let is_zero = |argument| match argument {
+                Lda => call.lda == 0,
+                Ldb => call.ldb == 0,
+                Ldc => call.ldc == 0,
+                _ => false,
+            };
+            let bad = arguments(routine).into_iter().find(|&(_, argument)| is_zero(argument));
+            let expected = bad.map_or(0, |(number, _)| number);
+            assert_eq!(hold(test, index, make), expected, "{call:?}");
+            numbers.insert(expected);
+        });
+        let of_leading = |&(_, argument): &(i32, Argument)| matches!(argument, Lda | Ldb | Ldc);
+        let all = arguments(routine).into_iter().filter(of_leading).map(|(number, _)| number);
+        assert_eq!(numbers, all.chain([0]).collect());
     }
 }
 

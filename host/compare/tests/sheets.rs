@@ -1,7 +1,8 @@
 //! The library's runner and the plain machine agree bit for bit on call sheets, good and bad.
 
-use compare::{compare_runs, differ, library_run, seed, sheet, Random, SheetCase, UNANSWERED};
+use compare::{calls, compare_runs, differ, library, library_run, of_call, seed, sheet, Random, SheetCase, UNANSWERED};
 use reference::machine::{run, trailer, RECORD};
+use reference::ROUTINES;
 use std::collections::BTreeSet;
 
 /// Checks a case made from a generator of its own, and on a difference panics with what is needed to make it again.
@@ -36,6 +37,25 @@ fn runs_of_any_kind() {
     of_records.remove(&UNANSWERED);
     assert_eq!(of_runs, BTreeSet::from([0, 34, 35, 36]));
     assert_eq!(of_records, (0..=13).chain(30..=33).collect());
+}
+
+/// Where a matrix has no rows, the answer of a record is the number of its direct call.
+#[test]
+fn records_without_rows() {
+    for routine in ROUTINES {
+        calls::without_rows(routine, &mut |test, index, make| {
+            let mut direct = make(&mut Random::of(test, index));
+            let number = library(&direct.call, &direct.a[0], &direct.b[0], &mut direct.out[0]);
+            hold(test, index, |random| {
+                let SheetCase { sheet, scalars, lent } = of_call(random, direct.call);
+                let (mut left, mut right) = (lent.clone(), lent);
+                let end = library_run(&sheet, &scalars, &mut left, 0, 0, u32::MAX);
+                assert_eq!(end, run(&sheet, &scalars, &mut right, 0, 0, u32::MAX));
+                assert_eq!(left.answers, [number], "{:?}", direct.call);
+                differ(&left, &right).map_or(Ok(()), Err)
+            });
+        });
+    }
 }
 
 /// A list of runs from the beginning is the plain machine after the sum of their budgets: arrays, answers, cursor and

@@ -1,6 +1,6 @@
 //! The comparison can fail: each of these plausible and false implementations is told apart from the reference.
 
-use compare::{accepted, compare, Implementation, Random};
+use compare::{accepted, calls, compare, Implementation, Random};
 use reference::{check, direct, Call, Routine};
 
 /// The first of 2,000 made-up calls on which the implementation differs from the reference.
@@ -114,7 +114,7 @@ fn wrong_elements() {
 
 /// The entries of the output that `which` chooses become zero.
 fn clear(call: &Call, out: &mut [f64], which: impl Fn(usize, usize) -> bool) {
-    let ld = call.ld_of_output().max(1) as usize;
+    let ld = call.ld_of_output() as usize;
     (0..out.len()).filter(|p| which(p % ld, p / ld)).for_each(|p| out[p] = 0.0);
 }
 
@@ -172,7 +172,7 @@ fn diagonal_left_out() {
         let wrong = |call: &Call, a: &[f64], b: &[f64], c: &mut [f64]| {
             let old = c.to_vec();
             let number = direct(call, a, b, c);
-            let ld = call.ldc.max(1) as usize;
+            let ld = call.ldc as usize;
             (0..c.len()).filter(|p| p % ld == p / ld).for_each(|p| c[p] = old[p]);
             number
         };
@@ -201,6 +201,33 @@ fn wrong_options() {
             direct(&Call { transa, ..*call }, a, b, out)
         };
         assert!(told_apart(routine, &c_as_n).is_some());
+    }
+}
+
+/// The call with other leading dimensions, each made of what it was and the rows of its matrix.
+fn with_leading(call: &Call, leading: fn(i32, i32) -> i32) -> Call {
+    let (a, b, c) = (call.stored_a().0, call.stored_b().0, call.shape_of_output().0);
+    Call { lda: leading(call.lda, a), ldb: leading(call.ldb, b), ldc: leading(call.ldc, c), ..*call }
+}
+
+#[test]
+fn wrong_leading_dimensions() {
+    for routine in reference::ROUTINES {
+        let one_above_the_rows = |call: &Call, a: &[f64], b: &[f64], out: &mut [f64]| {
+            let call = with_leading(call, |ld, rows| if ld == rows { ld - 1 } else { ld });
+            direct(&call, a, b, out)
+        };
+        assert!(told_apart(routine, &one_above_the_rows).is_some());
+
+        let zero_without_rows = |call: &Call, a: &[f64], b: &[f64], out: &mut [f64]| {
+            let call = with_leading(call, |ld, rows| if rows == 0 { ld.max(1) } else { ld });
+            direct(&call, a, b, out)
+        };
+        let mut apart = false;
+        calls::without_rows(routine, &mut |test, index, make| {
+            apart |= compare(&make(&mut Random::of(test, index)), &zero_without_rows, &direct).is_err();
+        });
+        assert!(apart);
     }
 }
 

@@ -13,8 +13,7 @@ struct Matrix {
 
 impl Matrix {
     /// The matrix of so many rows and columns. A matrix that has no entries, or will be refused, takes up no elements;
-    /// neither does a null pointer. netlib refuses a leading dimension of 0 even where a matrix has no rows, and the
-    /// proved calls do not; -1 is refused in its place.
+    /// neither does a null pointer.
     fn new(start: *const f64, ld: i32, (rows, cols): (i32, i32)) -> Matrix {
         let len = if rows > 0 && cols > 0 && ld > 0 && !start.is_null() {
             (cols as usize - 1) * ld as usize + rows as usize
@@ -22,7 +21,7 @@ impl Matrix {
             0
         };
         let start = if start.is_null() { NonNull::dangling().as_ptr() } else { start.cast_mut() };
-        Matrix { start, len, ld: if ld == 0 { -1 } else { ld } }
+        Matrix { start, len, ld }
     }
 }
 

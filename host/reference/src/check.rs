@@ -19,7 +19,7 @@ fn bad_diag(code: i32) -> bool {
 }
 
 fn bad_ld(ld: i32, rows: i32) -> bool {
-    ld < rows || ld < 0
+    ld < rows.max(1)
 }
 
 fn bad_width(w: i32) -> bool {

@@ -1,7 +1,7 @@
 //! The six Level 3 routines as plain loops, and call sheets as a plain machine.
 //!
-//! Everything here is written by hand from document 01, slow and obvious on purpose: it is what the tests hold the
-//! library against. It shares no code with the library or its wrapper.
+//! Everything here is written by hand from documents 01 and 02, slow and obvious on purpose: it is what the tests hold
+//! the library against. It shares no code with the library or its wrapper.
 //!
 //! A [`Call`] holds the arguments of a direct call as they come in, good or bad. [`direct`] checks and makes it.
 
@@ -78,7 +78,7 @@ pub struct Call {
 }
 
 impl Call {
-    /// A call of `routine` with sizes 0, options L, L, N, N, N, α = 1, β = 0 and w = r = 64.
+    /// A call of `routine` with sizes 0, leading dimensions 1, options L, L, N, N, N, α = 1, β = 0 and w = r = 64.
     pub fn new(routine: Routine) -> Call {
         let (letter_l, letter_n) = ('L' as i32, 'N' as i32);
         Call {
@@ -93,9 +93,9 @@ impl Call {
             k: 0,
             alpha: 1.0,
             beta: 0.0,
-            lda: 0,
-            ldb: 0,
-            ldc: 0,
+            lda: 1,
+            ldb: 1,
+            ldc: 1,
             w: 64,
             r: 64,
         }

@@ -1,4 +1,4 @@
-//! Document 01's table, row by row, and its examples of the numbers handed back.
+//! Document 01's table, row by row, and its and document 02's examples of the numbers handed back.
 
 use crate::machine::{run, trailer, End, Lent};
 use crate::{direct, Call, Routine};
@@ -143,6 +143,8 @@ fn numbers_of_direct_calls() {
     assert_eq!(number(call, 1, 1, 1), 0);
     assert_eq!(number(Call { transa: 88, ..call }, 1, 1, 1), 1);
     assert_eq!(number(Call { m: 2, ldc: 2, ..call }, 2, 1, 2), 8);
+    assert_eq!(number(Call { m: 0, lda: 0, ..call }, 1, 1, 1), 8);
+    assert_eq!(number(Call { m: 0, ..call }, 1, 1, 1), 0);
     assert_eq!(number(call, 1, 1, 0), 12);
     assert_eq!(number(Call { w: 65, ..call }, 1, 1, 1), 30);
 }

@@ -4,7 +4,8 @@
 //!
 //! Matrices are stored by columns: entry (i, j), both from 0, of an array with leading dimension `ld` is element
 //! `j * ld + i`. An array of p rows and q columns needs `ld * (q - 1) + p` elements, or none if p or q is 0. op(A) is A
-//! or its transpose. Sizes and leading dimensions are `i32`, as in the BLAS.
+//! or its transpose. Sizes and leading dimensions are `i32`, as in the BLAS: a leading dimension is at least 1, and at
+//! least the rows that its matrix is stored with.
 //!
 //! Each element is worked out in a fixed order, every operation rounded once: it starts as +0.0 if β is zero (the old
 //! element is not read), as the old element if β is one, else as β times it; then each term adds (α·v)·u, u from the
@@ -23,7 +24,7 @@
 //!
 //! let refusal = gemm(No, No, 2, 2, 2, 1.0, &a, 1, &b, 2, 0.0, &mut c, 2, Blocks::default()).unwrap_err();
 //! assert_eq!(refusal.number(), 8);
-//! assert_eq!(refusal.to_string(), "DGEMM: argument 8 (lda) is negative or below the rows of its matrix");
+//! assert_eq!(refusal.to_string(), "DGEMM: argument 8 (lda) is below 1 or below the rows of its matrix");
 //! # Ok::<(), thamrunlek::Refusal>(())
 //! ```
 
@@ -135,7 +136,7 @@ mod tests {
         let text = |routine, number| Refusal::of(routine, number).unwrap_err().to_string();
         assert_eq!(text(Routine::Gemm, 1), "DGEMM: argument 1 (transa) is not a code that it takes");
         assert_eq!(text(Routine::Syrk, 4), "DSYRK: argument 4 (k) is negative");
-        assert_eq!(text(Routine::Trsm, 11), "DTRSM: argument 11 (ldb) is negative or below the rows of its matrix");
+        assert_eq!(text(Routine::Trsm, 11), "DTRSM: argument 11 (ldb) is below 1 or below the rows of its matrix");
         assert_eq!(text(Routine::Symm, 11), "DSYMM: argument 11 (c) is shorter than its matrix needs");
         assert_eq!(text(Routine::Gemm, 30), "DGEMM: the strip width or block size is not 1 to 64");
     }

@@ -93,7 +93,7 @@ impl fmt::Display for Refusal {
         let fault = match argument {
             "side" | "uplo" | "trans" | "transa" | "transb" | "diag" => "is not a code that it takes",
             "m" | "n" | "k" => "is negative",
-            "lda" | "ldb" | "ldc" => "is negative or below the rows of its matrix",
+            "lda" | "ldb" | "ldc" => "is below 1 or below the rows of its matrix",
             _ => "is shorter than its matrix needs",
         };
         write!(f, "{name}: argument {} ({argument}) {fault}", self.number)

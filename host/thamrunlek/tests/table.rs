@@ -1,10 +1,10 @@
-//! The rows of document 01's table, through the safe functions.
+//! The rows of document 01's table, through the safe functions, and an example of document 02, through the C function.
 
 use thamrunlek::Diagonal::{NonUnit, Unit};
 use thamrunlek::Side::Left;
 use thamrunlek::Transpose::No;
 use thamrunlek::Triangle::{Lower, Upper};
-use thamrunlek::{gemm, run, symm, syr2k, syrk, trmm, trsm, Blocks, Cursor, Refusal};
+use thamrunlek::{gemm, raw, run, symm, syr2k, syrk, trmm, trsm, Blocks, Cursor, Refusal};
 
 const P: f64 = 9007199254740992.0;
 
@@ -94,4 +94,15 @@ fn refused_runs() {
         "the cursor is at no record, or at no strip of an accepted one",
     ];
     assert_eq!(refusals.map(|refusal| refusal.to_string()), texts);
+}
+
+/// Document 02, K2: m = 0, transa N, lda = 0 and nothing else wrong gives 8, and lda = 1 gives 0.
+#[test]
+fn a_leading_dimension_is_at_least_1() {
+    const N: i32 = 'N' as i32;
+    let (one, mut c) = ([1.], [7.]);
+    let (x, z) = (one.as_ptr(), c.as_mut_ptr());
+    let number = |lda| unsafe { raw::tl_dgemm(N, N, 0, 1, 1, 1., x, 1, lda, x, 1, 1, 0., z, 1, 1, 64, 64) };
+    assert_eq!([number(0), number(1)], [8, 0]);
+    assert_eq!(c, [7.]);
 }
