@@ -1,4 +1,4 @@
--- Document 01's "Table to be proved", and the examples of its "Numbers handed back", by computation over the definitions.
+-- Document 01's "Table to be proved", the examples of its "Numbers handed back", and document 02's example of K2, by computation over the definitions.
 -- Assumes nothing.
 use Prim.Native.Nat.{ℕ, _+_, _-_}
 use mathlib.Core.Path.{_≡_, refl}
