@@ -44,8 +44,9 @@ extern "C" {
  * 12  c       C, m by n: read and written. c_len elements; with fewer than C needs the call is refused, unless m or n
  *             is zero. Elements that are no entry of C keep their bits.
  * 13  ldc     leading dimension of C: at least m, and at least 1.
- * 30  w       strip width: the columns of C that are worked on at a time, 1 to 64. 64 is a good choice.
- * 30  r       block size: the rows and terms that are worked on at a time, 1 to 64. 64 is a good choice.
+ * 30  w       strip width: the columns of C that are worked on at a time, 0 to 64. 0 leaves the choice to the library:
+ *             it works as 64.
+ * 30  r       block size: the rows and terms that are worked on at a time, 0 to 64, in the same way.
  */
 int32_t tl_dgemm(int32_t transa, int32_t transb, int32_t m, int32_t n, int32_t k, double alpha,
                  const double *a, size_t a_len, int32_t lda, const double *b, size_t b_len, int32_t ldb,
@@ -165,7 +166,7 @@ int32_t tl_dtrmm(int32_t side, int32_t uplo, int32_t transa, int32_t diag, int32
  *             is zero. Elements that are no entry of B keep their bits.
  * 11  ldb     leading dimension of B: at least m, and at least 1.
  * 30  w       strip width, as for TRMM.
- * 30  r       block size: the unknowns that are worked on at a time, 1 to 64. 64 is a good choice.
+ * 30  r       block size, as for GEMM: the unknowns that are worked on at a time.
  */
 int32_t tl_dtrsm(int32_t side, int32_t uplo, int32_t transa, int32_t diag, int32_t m, int32_t n, double alpha,
                  const double *a, size_t a_len, int32_t lda, double *b, size_t b_len, int32_t ldb,
@@ -207,9 +208,10 @@ struct RunEnd {
  * another matrix too. 33: a first element is negative or above the length of its array. Any other number is what a call
  * of the routine would return.
  *
- * A step makes one strip of a record, which is w columns of its output (rows for TRMM and TRSM of side R), the last one
- * perhaps fewer; or it refuses a record. A record with nothing to do takes its steps too. So the arrays, the answers
- * and the cursor are all that a sheet needs to be taken up again, and how a sheet is cut into runs changes no bit.
+ * A step makes one strip of a record, which is w columns of its output (rows for TRMM and TRSM of side R), 64 if w is
+ * 0, the last one perhaps fewer; or it refuses a record. A record with nothing to do takes its steps too. So the
+ * arrays, the answers and the cursor are all that a sheet needs to be taken up again, and how a sheet is cut into runs
+ * changes no bit.
  *
  * X, Y, Z and the answers must not overlap each other, the sheet or the scalars.
  *

@@ -40,7 +40,7 @@ passed() {
 }
 
 for cpu in $(host/library/supported.sh); do
-    for blocks in '64 64' '3 2' '1 1'; do
+    for blocks in '0 0' '3 2' '1 1'; do
         read -r w r <<< "$blocks"
         for program in xblat3d xdcblat3; do
             for folder in "$programs" "$work"; do

@@ -151,18 +151,21 @@ fn bad_ld(ld: i32, s: Shape) -> bool
     (n < 1) | (n < s.rows)
 }
 
-// A strip width or block size that is not 1 to 64.
+// A strip width or block size that is not 0 to 64.
 fn bad_width(w: i32) -> bool
     ensures { λ r. ⌜ r ≡ Check.badWidth w ⌝ }
 {
     let n = size(w);
-    (n == 0) | (64 < n)
+    negative(w) | (64 < n)
 }
 
-// What an allowed strip width or block size means.
+// What an allowed strip width or block size means: 0 is 64.
 pub fn width(w: i32) -> usize
     ensures { λ r. ⌜ r ≡ Check.width w ⌝ }
 {
+    if w == 0 {
+        return 64;
+    }
     size(w) as usize
 }
 

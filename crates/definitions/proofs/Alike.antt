@@ -1,4 +1,4 @@
--- Demand 3, for two sheets: alike except in strip widths and block sizes, each 1 to 64, they have the same arrays and answers at the finish.
+-- Demand 3, for two sheets: alike except in strip widths and block sizes, each 0 to 64, they have the same arrays and answers at the finish.
 -- Assumes nothing.
 use Prim.Native.Nat.{ℕ, _+_, _-_, _*_, _<_}
 use mathlib.Core.Path.{_≡_, refl, sym, ap, ap₂, subst, _∙_}

@@ -99,7 +99,7 @@ pub refusal-allowed : (w r : ℤ) (g : Args) → badWidth w ≡ false → badWid
 unfolding refusal
 refusal-allowed w r g hw hr = if-false (badWidth w || badWidth r) 30 _ (or-both (badWidth w) (badWidth r) hw hr)
 
--- Two direct calls that are alike except in strip widths and block sizes, each 1 to 64, give the same number and the same array.
+-- Two direct calls that are alike except in strip widths and block sizes, each 0 to 64, give the same number and the same array.
 pub alike-calls : (w r w′ r′ : ℤ) (g : Args) (a b out : List Float) → badWidth w ≡ false → badWidth r ≡ false → badWidth w′ ≡ false → badWidth r′ ≡ false
     → done w r g a b out ≡ done w′ r′ g a b out
 alike-calls w r w′ r′ g a b out hw hr hw′ hr′ =

@@ -7,7 +7,7 @@ use Prim.Native.Nat.{ℕ, zero, suc, _≤_, _<_}
 use native.Mathlib.Nat.{le-trans, le-max-right}
 use native.Mathlib.Omega.{arith}
 use lib.Dec.{leb, ltb, eqb, eqb·suc-zero}
-use lib.IntN.{ℤ}
+use lib.IntN.{ℤ, pos, negsuc}
 use lib.ListN.{getD}
 use borrow.Author.Tests.{eqb-true, eqb-false, leb-true, ltb-false}
 use Rattle.arrays.specs.Choice.{if_then_else_}
@@ -104,7 +104,9 @@ module _ (w r : ℤ) (g : Args) where
 
 in-range : (w : ℤ) → badWidth w ≡ false → (0 < width w) × (width w ≤ 64)
 unfolding badWidth width
-in-range w h = (above-zero (nat w) (or-left (eqb (nat w) 0) _ h), ltb-false 64 (nat w) (or-right (eqb (nat w) 0) _ h))
+in-range (pos zero) h = (omega arith, omega arith)
+in-range (pos (suc n)) h = (omega arith, ltb-false 64 (suc n) h)
+in-range (negsuc n) h = absurd (true≢false h)
 
 chosen : (b : Bool) (e : ℕ) → (if b then 30 else e) ≡ 0 → (b ≡ false) × (e ≡ 0)
 chosen true e h = absurd (omega arith)

@@ -1,4 +1,4 @@
--- Document 01's "Table to be proved", the examples of its "Numbers handed back", and document 02's example of K2, by computation over the definitions.
+-- Document 01's "Table to be proved", the examples of its "Numbers handed back", and examples of document 02's K2 and K5, by computation over the definitions.
 -- Assumes nothing.
 use Prim.Native.Nat.{ℕ, _+_, _-_}
 use mathlib.Core.Path.{_≡_, refl}
@@ -49,15 +49,15 @@ gemmNN : ℕ → ℕ → ℕ → Float → List Float → List Float → Float �
 gemmNN m n k alpha a b beta c =
     gemm (pos 'N') (pos 'N') (pos m) (pos n) (pos k) alpha a (pos m) b (pos k) beta c (pos m) (pos 64) (pos 64)
 
--- "sheet of one GEMM, m = k = 1, n 3, w 1, all else sound": A is X, B is Y, C is Z
-sheet : Sheet.Sheet
-sheet = record {
-  words = map pos (1 ∷ 0 ∷ 0 ∷ 'N' ∷ 'N' ∷ 0 ∷ 1 ∷ 3 ∷ 1 ∷ 0 ∷ 0 ∷ 1 ∷ 1 ∷ 0 ∷ 1 ∷ 2 ∷ 0 ∷ 1 ∷ 1 ∷ 1 ∷ 0 ∷ 1 ∷ []);
+-- "sheet of one GEMM, m = k = 1, n 3, w 1, all else sound", with n and w as given: A is X, B is Y, C is Z
+sheet : ℕ → ℕ → Sheet.Sheet
+sheet n w = record {
+  words = map pos (1 ∷ 0 ∷ 0 ∷ 'N' ∷ 'N' ∷ 0 ∷ 1 ∷ n ∷ 1 ∷ 0 ∷ 0 ∷ 1 ∷ 1 ∷ 0 ∷ 1 ∷ 2 ∷ 0 ∷ 1 ∷ w ∷ 0 ∷ 0 ∷ 1 ∷ []);
   scalars = 1f ∷ 0f ∷ [];
 }
 
 lent : Arrays
-lent = record { x = vec (2 ∷ []); y = vec (3 ∷ 4 ∷ 5 ∷ []); z = vec (0 ∷ 0 ∷ 0 ∷ []) }
+lent = record { x = vec (2 ∷ []); y = vec (replicate 65 3); z = vec (replicate 65 0) }
 
 -- before the first run, at the cursor (p, s)
 before : ℤ → ℤ → Ran
@@ -136,7 +136,7 @@ table :
     (num 1 ∷ num P ∷ neg (num P) ∷ []) (pos 3) (pos 64) (pos 64)
     ≡ gives (num 0 ∷ num P ∷ neg (num P) ∷ []))
     -- m
-    × (map cursor (runs sheet (2 ∷ 1 ∷ []) (before (pos 0) (pos 0))) ≡ (pos 0, pos 2) ∷ (pos 1, pos 0) ∷ [])
+    × (map cursor (runs (sheet 3 1) (2 ∷ 1 ∷ []) (before (pos 0) (pos 0))) ≡ (pos 0, pos 2) ∷ (pos 1, pos 0) ∷ [])
 unfolding opened
 table = (
   gives-is _ _ tt tt,
@@ -170,16 +170,22 @@ numbers :
     × (direct (pos 'N') (pos 0) (pos 0) (pos 64) (vec (0 ∷ 0 ∷ [])) .number ≡ pos 8)
     × (direct (pos 'N') (pos 1) (pos 1) (pos 64) [] .number ≡ pos 12)
     × (direct (pos 'N') (pos 1) (pos 1) (pos 65) (vec (0 ∷ 0 ∷ [])) .number ≡ pos 30)
+    -- document 02, K5: "Number 30 is left for values below 0 or above 64."
+    × (direct (pos 'N') (pos 1) (pos 1) (negsuc 0) (vec (0 ∷ 0 ∷ [])) .number ≡ pos 30)
     × (answersOf (recordOf 7 0 (pos 0) 2) ≡ pos 31 ∷ [])
     × (answersOf (recordOf 3 0 (pos 0) 0) ≡ pos 32 ∷ [])
     × (answersOf (recordOf 3 0 (negsuc 0) 2) ≡ pos 33 ∷ [])
     × (numberOf (record { words = pos 0 ∷ []; scalars = [] }) (pos 0) (pos 0) ≡ pos 34 ∷ [])
     × (numberOf (record { words = map pos (replicate 20 0) ++ (negsuc 19 ∷ pos 2 ∷ []); scalars = [] }) (pos 0) (pos 0) ≡ pos 34 ∷ [])
-    × (numberOf (record { words = sheet .words; scalars = 1f ∷ [] }) (pos 0) (pos 0) ≡ pos 35 ∷ [])
-    × (numberOf sheet (pos 1) (pos 1) ≡ pos 36 ∷ [])
+    × (numberOf (record { words = sheet 3 1 .words; scalars = 1f ∷ [] }) (pos 0) (pos 0) ≡ pos 35 ∷ [])
+    × (numberOf (sheet 3 1) (pos 1) (pos 1) ≡ pos 36 ∷ [])
+    -- document 02, K5: 0 "works as 64"; there is no second strip in 64 columns, and there is one in 65
+    × (numberOf (sheet 64 0) (pos 0) (pos 1) ≡ pos 36 ∷ [])
     -- and accepted ones
     × (direct (pos 'N') (pos 0) (pos 1) (pos 64) (vec (0 ∷ 0 ∷ [])) .number ≡ pos 0)
+    × (direct (pos 'N') (pos 1) (pos 1) (pos 0) (vec (0 ∷ 0 ∷ [])) .number ≡ pos 0)
     × (answersOf (recordOf 3 0 (pos 0) 2) ≡ pos 0 ∷ [])
-    × (numberOf sheet (pos 0) (pos 2) ≡ pos 0 ∷ [])
+    × (numberOf (sheet 3 1) (pos 0) (pos 2) ≡ pos 0 ∷ [])
+    × (numberOf (sheet 65 0) (pos 0) (pos 1) ≡ pos 0 ∷ [])
 unfolding opened
-numbers = (refl, refl, refl, refl, refl, refl, refl, refl, refl, refl, refl, refl, refl, refl, refl)
+numbers = (refl, refl, refl, refl, refl, refl, refl, refl, refl, refl, refl, refl, refl, refl, refl, refl, refl, refl, refl)

@@ -1,5 +1,5 @@
 -- The argument check of a direct call: codes, the table of places, the tests and their order, and its answer.
-use Prim.Native.Nat.{ℕ, _+_, max}
+use Prim.Native.Nat.{ℕ, zero, suc, _+_, max}
 use mathlib.Core.Bool.{Bool, true, false, not, _&&_, _||_}
 use mathlib.Core.List.{List, [], _∷_, _++_}
 use lib.Dec.{ltb, eqb}
@@ -163,13 +163,15 @@ unfoldable pub firstBad : Args → List Place → ℕ
 firstBad g [] = 0
 firstBad g (x ∷ xs) = let rest = firstBad g xs in if bad g (x .argument) then x .place else rest
 
--- "w or r not 1 to 64"
+-- Document 02, K5: "Number 30 is left for values below 0 or above 64."
 unfoldable pub badWidth : ℤ → Bool
-badWidth w = eqb (nat w) 0 || ltb 64 (nat w)
+badWidth w = negative w || ltb 64 (nat w)
 
--- What an allowed strip width or block size means.
+-- Document 02, K5: "A strip width or block size of 0 is answered from now on, and works as 64." (A negative one is refused and stands for no width.)
 unfoldable pub width : ℤ → ℕ
-width w = nat w
+width (pos zero) = 64
+width (pos (suc n)) = suc n
+width (negsuc n) = 0
 
 -- "30, then places ascending for codes, sizes and leading dimensions, then array lengths ascending": the number of a refusal, or 0
 unfoldable pub refusal : ℤ → ℤ → Args → ℕ

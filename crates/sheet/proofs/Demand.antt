@@ -28,7 +28,7 @@ any-list-of-runs t trailer l answers long bs = list-of-runs t trailer bs l answe
 pub finish : (t : Sheet) (l : Arrays) (answers : List ℤ) → (n : ℕ) × (after t n (begin l answers 0 0) .p ≡ records t)
 finish = finish-is-reached
 
--- Two sheets that are alike except in strip widths and block sizes, each 1 to 64, leave the same arrays and answers at the finish, whatever the budgets of either list.
+-- Two sheets that are alike except in strip widths and block sizes, each 0 to 64, leave the same arrays and answers at the finish, whatever the budgets of either list.
 pub alike-sheets : (t u : Sheet) → sound t ≡ true → sound u ≡ true → Alike t u → (l : Arrays) (answers : List ℤ) → tooShort t answers ≡ false → (bs cs : List ℕ)
     → last (before l answers) (runs t bs (before l answers)) .end .p ≡ pos (records t) → last (before l answers) (runs u cs (before l answers)) .end .p ≡ pos (records u)
     → (last (before l answers) (runs t bs (before l answers)) .arrays ≡ last (before l answers) (runs u cs (before l answers)) .arrays)

@@ -12,11 +12,12 @@ pub type Each<'e> = &'e mut dyn FnMut(&str, u64, &dyn Fn(&mut Random) -> Case);
 pub type Calls = fn(Routine, Each);
 
 /// The calls of all tests.
-pub const ALL: [Calls; 7] = [
+pub const ALL: [Calls; 8] = [
     options_and_sizes,
     widths_and_block_sizes,
     random,
     around_multiples_of_64,
+    zeros,
     beside_nans,
     without_rows,
     ends_of_the_range,
@@ -83,8 +84,8 @@ pub fn options_and_sizes(routine: Routine, each: Each) {
 
 /// Every pair of a strip width and a block size.
 pub fn widths_and_block_sizes(routine: Routine, each: Each) {
-    for index in cases(64 * 64) {
-        let (w, r) = (index as i32 / 64 + 1, index as i32 % 64 + 1);
+    for index in cases(65 * 65) {
+        let (w, r) = (index as i32 / 65, index as i32 % 65);
         each(&format!("widths {routine:?}"), index as u64, &|random| {
             accepted(random, routine, |call| (call.w, call.r) = (w, r))
         });
@@ -105,6 +106,20 @@ pub fn around_multiples_of_64(routine: Routine, each: Each) {
         let options = &combinations[index % combinations.len()];
         each(&format!("large {routine:?}"), index as u64, &|random| {
             large(random, routine, |call| take_options(call, options))
+        });
+    }
+}
+
+/// A strip width of 0, a block size of 0, and both, with sizes around the multiples of 64.
+pub fn zeros(routine: Routine, each: Each) {
+    let combinations = plain_combinations(routine);
+    for index in cases(3 * combinations.len()) {
+        let options = &combinations[index / 3];
+        each(&format!("zeros {routine:?}"), index as u64, &|random| {
+            large(random, routine, |call| {
+                take_options(call, options);
+                (call.w, call.r) = [(0, call.r), (call.w, 0), (0, 0)][index % 3];
+            })
         });
     }
 }

@@ -131,9 +131,9 @@ pub(crate) fn options(random: &mut Random, routine: Routine) -> Call {
 /// A strip width or block size, small ones often.
 pub(crate) fn width(random: &mut Random) -> i32 {
     if random.once_in(2) {
-        random.from(1, 8)
+        random.from(0, 8)
     } else {
-        random.from(1, 64)
+        random.from(0, 64)
     }
 }
 
@@ -180,8 +180,8 @@ pub fn large(random: &mut Random, routine: Routine, fix: impl FnOnce(&mut Call))
         k: random.pick(&SIZES),
         alpha: random.pick(&[1.0, alpha]),
         beta: random.pick(&[0.0, 1.0, 0.75]),
-        w: random.pick(&[1, 7, 32, 63, 64]),
-        r: random.pick(&[1, 7, 32, 63, 64]),
+        w: random.pick(&[0, 1, 7, 32, 63, 64]),
+        r: random.pick(&[0, 1, 7, 32, 63, 64]),
         ..options(random, routine)
     };
     fix(&mut call);

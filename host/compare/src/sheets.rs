@@ -94,7 +94,7 @@ fn spoil(random: &mut Random, record: &mut Record, routine: Routine, lengths: &[
             let (under, over) = (was.wrapping_sub(1), was.wrapping_add(50));
             random.pick(&[-1, under, under, over, over, i32::MIN, i32::MAX])
         }
-        _ => random.pick(&[0, -1, 65, i32::MIN, i32::MAX]),
+        _ => random.pick(&[-1, 65, i32::MIN, i32::MAX]),
     };
 }
 

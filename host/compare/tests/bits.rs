@@ -34,6 +34,11 @@ fn sizes_around_multiples_of_64() {
 }
 
 #[test]
+fn a_strip_width_or_block_size_of_0() {
+    agree(calls::zeros);
+}
+
+#[test]
 fn a_triangle_beside_nans() {
     agree(calls::beside_nans);
 }

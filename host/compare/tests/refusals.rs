@@ -67,7 +67,7 @@ fn shorten(random: &mut Random, arrays: &mut [Vec<f64>; 2], ld: i32, (rows, cols
 /// Makes one argument of a sound case bad; `was` is the sound call.
 fn spoil(random: &mut Random, case: &mut Case, was: &Call, argument: Argument) {
     let call = &mut case.call;
-    let bad_width = random.pick(&[0, -1, 65, 128, i32::MIN, i32::MAX]);
+    let bad_width = random.pick(&[-1, -64, 65, 128, i32::MIN, i32::MAX]);
     let bad_code = random.pick(&[0, 88, 'A' as i32, -1, i32::MAX, 256 + 'N' as i32]);
     let bad_size = random.pick(&[-1, -2, i32::MIN]);
     match argument {
@@ -203,11 +203,11 @@ fn a_leading_dimension_is_good_from_1_on() {
 }
 
 #[test]
-fn a_width_is_good_from_1_to_64() {
+fn a_width_is_good_from_0_to_64() {
     for routine in ROUTINES {
         for w in (-70..=140).chain([i32::MIN, i32::MAX]) {
-            for (index, other) in [1, 64].into_iter().enumerate() {
-                let expected = if (1..=64).contains(&w) { 0 } else { 30 };
+            for (index, other) in [0, 1, 64].into_iter().enumerate() {
+                let expected = if (0..=64).contains(&w) { 0 } else { 30 };
                 let number = hold("widths", index as u64, |random| {
                     accepted(random, routine, |call| (call.w, call.r) = (w, other))
                 });

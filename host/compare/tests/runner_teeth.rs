@@ -1,7 +1,8 @@
 //! The comparison of runners can fail: each of these plausible and false runners is told apart from the plain machine.
 
-use compare::{compare_runs, sheet, Random, Runner};
+use compare::{calls, compare_runs, of_call, sheet, Random, Runner};
 use reference::machine::{run, trailer, End, Lent, RECORD};
+use reference::ROUTINES;
 
 /// The first of 2,000 made-up sheets on which the runner differs from the plain machine.
 fn told_apart(wrong: Runner) -> Option<u64> {
@@ -50,7 +51,7 @@ fn a_call_finished_at_its_first_strip_and_idle_steps_after_it() {
     let wrong = stepwise(|sheet, scalars, lent, p, s| {
         let mut first = lent.clone();
         if s == 0 {
-            let widen = |record: &mut [i32]| record[18] = if (1..=64).contains(&record[18]) { 64 } else { record[18] };
+            let widen = |record: &mut [i32]| record[18] = if (0..=64).contains(&record[18]) { 64 } else { record[18] };
             run(&with_records(sheet, widen), scalars, &mut first, p, 0, 1);
         }
         let end = run(sheet, scalars, lent, p, s, 1);
@@ -140,13 +141,47 @@ fn the_array_of_a_matrix_that_syrk_lacks() {
 fn widths_tested_before_arrays() {
     let wrong = |sheet: &[i32], scalars: &[f64], lent: &mut Lent, p, s, budget| {
         let sound = |record: &mut [i32]| {
-            if !(1..=64).contains(&record[18]) {
+            if !(0..=64).contains(&record[18]) {
                 (0..3).for_each(|matrix| (record[9 + 3 * matrix], record[10 + 3 * matrix]) = (matrix as i32, 0));
             }
         };
         run(&with_records(sheet, sound), scalars, lent, p, s, budget)
     };
     assert!(told_apart(&wrong).is_some());
+}
+
+/// A runner that takes the strip width or the block size of each record for another.
+fn other_widths(word: usize, other: fn(i32) -> i32) -> impl Fn(&[i32], &[f64], &mut Lent, i32, i32, u32) -> End {
+    move |sheet, scalars, lent, p, s, budget| {
+        run(&with_records(sheet, |record| record[word] = other(record[word])), scalars, lent, p, s, budget)
+    }
+}
+
+#[test]
+fn a_width_or_block_size_of_0_refused_or_a_negative_one_taken() {
+    for word in [18, 19] {
+        assert!(told_apart(&other_widths(word, |w| if w == 0 { 65 } else { w })).is_some());
+        assert!(told_apart(&other_widths(word, |w| if w < 0 { 64 } else { w })).is_some());
+        assert_eq!(told_apart(&other_widths(word, |w| if w == 0 { 64 } else { w })), None);
+    }
+}
+
+#[test]
+fn a_width_of_0_as_63() {
+    let told_apart = |other| {
+        let mut apart = false;
+        for routine in ROUTINES {
+            calls::zeros(routine, &mut |test, index, make| {
+                let random = &mut Random::of(test, index);
+                let call = make(random).call;
+                let case = of_call(random, call);
+                apart |= compare_runs(&case, random, &other, &run).is_err();
+            });
+        }
+        apart
+    };
+    assert!(told_apart(other_widths(18, |w| if w == 0 { 63 } else { w })));
+    assert!(!told_apart(other_widths(18, |w| if w == 0 { 64 } else { w })));
 }
 
 #[test]

@@ -2,7 +2,7 @@
 
 use compare::{calls, compare_runs, differ, library, library_run, of_call, seed, sheet, Random, SheetCase, UNANSWERED};
 use reference::machine::{run, trailer, RECORD};
-use reference::ROUTINES;
+use reference::{Call, ROUTINES};
 use std::collections::BTreeSet;
 
 /// Checks a case made from a generator of its own, and on a difference panics with what is needed to make it again.
@@ -58,6 +58,35 @@ fn records_without_rows() {
     }
 }
 
+/// A record of width 0 has the strips of one of width 64: a step from any cursor ends alike and leaves the same, in the
+/// library and in the plain machine, with 0 and with 64. At the finish other widths and block sizes leave the same too.
+#[test]
+fn records_of_width_0() {
+    for routine in ROUTINES {
+        calls::zeros(routine, &mut |test, index, make| {
+            hold(test, index, |random| {
+                let call = Call { w: 0, ..make(random).call };
+                let SheetCase { sheet, scalars, lent } = of_call(random, call);
+                let alike = |w, r| [&sheet[..sheet.len() - 4], &[w, r], &sheet[sheet.len() - 2..]].concat();
+                let strips = (call.extent() + 63) / 64;
+                for s in -1..=strips {
+                    let [mut left, mut right, mut machine] = [(); 3].map(|_| lent.clone());
+                    let end = library_run(&sheet, &scalars, &mut left, 0, s, 1);
+                    assert_eq!(end.number, if (0..strips).contains(&s) { 0 } else { 36 });
+                    assert_eq!(end, library_run(&alike(64, 64), &scalars, &mut right, 0, s, 1));
+                    assert_eq!(end, run(&sheet, &scalars, &mut machine, 0, s, 1));
+                    differ(&left, &right).or_else(|| differ(&left, &machine)).map_or(Ok(()), Err)?;
+                }
+                let (mut left, mut right) = (lent.clone(), lent);
+                let other = alike(random.from(1, 63), random.from(1, 63));
+                library_run(&sheet, &scalars, &mut left, 0, 0, u32::MAX);
+                library_run(&other, &scalars, &mut right, 0, 0, u32::MAX);
+                differ(&left, &right).map_or(Ok(()), Err)
+            });
+        });
+    }
+}
+
 /// A list of runs from the beginning is the plain machine after the sum of their budgets: arrays, answers, cursor and
 /// the total of steps. No run of it is refused.
 #[test]
@@ -91,7 +120,7 @@ fn alike_sheets_finish_alike() {
             for lent in [&mut left, &mut right] {
                 let mut alike = sheet.clone();
                 alike[first..first + RECORD * count].chunks_mut(RECORD).for_each(|record| {
-                    (record[18], record[19]) = (random.from(1, 64), random.from(1, 64));
+                    (record[18], record[19]) = (random.from(0, 64), random.from(0, 64));
                 });
                 let end = library_run(&alike, &scalars, lent, 0, 0, u32::MAX);
                 assert_eq!((end.number, end.p, end.s), (0, count as i32, 0));

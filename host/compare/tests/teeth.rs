@@ -1,7 +1,7 @@
 //! The comparison can fail: each of these plausible and false implementations is told apart from the reference.
 
 use compare::{accepted, calls, compare, Implementation, Random};
-use reference::{check, direct, Call, Routine};
+use reference::{check, direct, width, Call, Routine};
 
 /// The first of 2,000 made-up calls on which the implementation differs from the reference.
 fn told_apart(routine: Routine, wrong: Implementation) -> Option<u64> {
@@ -82,12 +82,12 @@ fn fused(call: &Call, old: f64, factors: &[(f64, f64)]) -> f64 {
 }
 
 fn beta_for_each_panel(call: &Call, old: f64, factors: &[(f64, f64)]) -> f64 {
-    let panels = factors.chunks(call.r as usize);
+    let panels = factors.chunks(width(call.r) as usize);
     panels.fold(old, |e, panel| panel.iter().fold(start(call.beta, e), |e, &term| add(call, e, term)))
 }
 
 fn partial_sums(call: &Call, old: f64, factors: &[(f64, f64)]) -> f64 {
-    let panels = factors.chunks(call.r as usize);
+    let panels = factors.chunks(width(call.r) as usize);
     panels.fold(start(call.beta, old), |e, panel| e + panel.iter().fold(0.0, |e, &term| add(call, e, term)))
 }
 
@@ -232,13 +232,36 @@ fn wrong_leading_dimensions() {
 }
 
 #[test]
+fn wrong_widths() {
+    for routine in reference::ROUTINES {
+        let refused = |w: i32| if w == 0 { 65 } else { w };
+        let width_0_refused = |call: &Call, a: &[f64], b: &[f64], out: &mut [f64]| {
+            direct(&Call { w: refused(call.w), ..*call }, a, b, out)
+        };
+        let block_size_0_refused = |call: &Call, a: &[f64], b: &[f64], out: &mut [f64]| {
+            direct(&Call { r: refused(call.r), ..*call }, a, b, out)
+        };
+        assert!(told_apart(routine, &width_0_refused).is_some());
+        assert!(told_apart(routine, &block_size_0_refused).is_some());
+
+        let negative_taken = |call: &Call, a: &[f64], b: &[f64], out: &mut [f64]| {
+            direct(&Call { w: call.w.max(0), r: call.r.max(0), ..*call }, a, b, out)
+        };
+        for (w, r) in [(-1, 0), (0, -1)] {
+            let case = accepted(&mut Random::of("negative widths", 0), routine, |call| (call.w, call.r) = (w, r));
+            assert!(compare(&case, &negative_taken, &direct).is_err());
+        }
+    }
+}
+
+#[test]
 fn syr2k_that_alternates_panels() {
     let wrong = |call: &Call, a: &[f64], b: &[f64], c: &mut [f64]| {
         let number = check(call, a.len(), b.len(), c.len());
         if number != 0 || call.start_only() {
             return direct(call, a, b, c);
         }
-        let (n, k, r) = (call.n as usize, call.k as usize, call.r as usize);
+        let (n, k, r) = (call.n as usize, call.k as usize, width(call.r) as usize);
         let op_a = |i, l| op(call.transposed_a(), a, call.lda, i, l);
         let op_b = |i, l| op(call.transposed_a(), b, call.ldb, i, l);
         for (i, j) in (0..n * n).map(|p| (p % n, p / n)).filter(|(i, j)| i == j || (i < j) == call.upper()) {

@@ -18,14 +18,14 @@ pub fn blocks() -> Blocks {
 fn from_environment(name: &str, default: i32) -> i32 {
     let Some(text) = env::var_os(name) else { return default };
     text.to_str().and_then(number).unwrap_or_else(|| {
-        let _ = writeln!(stderr(), "thamrunlek: {name} is {text:?} and not a number from 1 to 64; {default} is taken");
+        let _ = writeln!(stderr(), "thamrunlek: {name} is {text:?} and not a number from 0 to 64; {default} is taken");
         default
     })
 }
 
-/// The text as a number from 1 to 64.
+/// The text as a number from 0 to 64.
 fn number(text: &str) -> Option<i32> {
-    text.parse().ok().filter(|number| (1..=64).contains(number))
+    text.parse().ok().filter(|number| (0..=64).contains(number))
 }
 
 #[cfg(test)]
@@ -33,9 +33,9 @@ mod tests {
     use super::number;
 
     #[test]
-    fn only_numbers_from_1_to_64_are_taken() {
-        assert_eq!(["1", "7", "64"].map(number), [Some(1), Some(7), Some(64)]);
-        for text in ["", "0", "65", "-1", "x", "8x", "3.5", "99999999999"] {
+    fn only_numbers_from_0_to_64_are_taken() {
+        assert_eq!(["0", "1", "7", "64"].map(number), [Some(0), Some(1), Some(7), Some(64)]);
+        for text in ["", "65", "-1", "x", "8x", "3.5", "99999999999"] {
             assert_eq!(number(text), None);
         }
     }

@@ -5,9 +5,10 @@
 //! with netlib's number, and then nothing has been written. The matrices of a call may be parts of one array, as long
 //! as no entry of the output is an entry of an input.
 //!
-//! Strip width and block size are 64, or what the environment variables THAMRUNLEK_W and THAMRUNLEK_R say; they are
-//! read once, at the first call. The build of the library is the widest that the machine supports, or a narrower one that
-//! THAMRUNLEK_CPU names. All three change the time that a call takes and never its result.
+//! Strip width and block size are 0, the library's choice, or what the environment variables THAMRUNLEK_W and
+//! THAMRUNLEK_R say; they are read once, at the first call. The build of the library is the widest that the machine
+//! supports, or a narrower one that THAMRUNLEK_CPU names. All three change the time that a call takes and never its
+//! result.
 
 #![deny(missing_docs)]
 #![allow(clippy::missing_safety_doc, clippy::too_many_arguments)]

@@ -78,15 +78,17 @@ fn a_handler_of_the_program_takes_precedence() {
 #[test]
 fn the_environment_sets_the_block_sizes() {
     let program = compiled("environment", true, &["-DOWN", "-DOWN_CBLAS"]);
-    let [output, errors] = run(program.clone(), &[("THAMRUNLEK_W", "3"), ("THAMRUNLEK_R", "2")]);
-    assert_eq!((output.ends_with(RESULTS), errors.as_str()), (true, ""));
+    for (w, r) in [("3", "2"), ("0", "0")] {
+        let [output, errors] = run(program.clone(), &[("THAMRUNLEK_W", w), ("THAMRUNLEK_R", r)]);
+        assert_eq!((output.ends_with(RESULTS), errors.as_str()), (true, ""));
+    }
 
     let [output, errors] = run(program, &[("THAMRUNLEK_W", "65"), ("THAMRUNLEK_R", "many")]);
     assert!(output.ends_with(RESULTS));
     assert_eq!(
         errors,
-        "thamrunlek: THAMRUNLEK_W is \"65\" and not a number from 1 to 64; 64 is taken\n\
-         thamrunlek: THAMRUNLEK_R is \"many\" and not a number from 1 to 64; 64 is taken\n"
+        "thamrunlek: THAMRUNLEK_W is \"65\" and not a number from 0 to 64; 0 is taken\n\
+         thamrunlek: THAMRUNLEK_R is \"many\" and not a number from 0 to 64; 0 is taken\n"
     );
 }
 

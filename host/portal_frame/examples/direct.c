@@ -39,11 +39,11 @@ static void print(const char *const *names, int rows, const double *values) {
 
 int main(void) {
     double x[12] = {0}, m[24] = {0};
-    need(tl_dgemm('N', 'N', 3, 4, 3, 1, loads, 9, 3, factors, 12, 3, 0, x, 12, 3, 64, 64));
-    need(tl_dtrsm('L', 'L', 'N', 'N', 3, 4, 1, factor, 9, 3, x, 12, 3, 64, 64));
-    need(tl_dtrsm('L', 'L', 'T', 'N', 3, 4, 1, factor, 9, 3, x, 12, 3, 64, 64));
-    need(tl_dgemm('N', 'N', 6, 4, 3, 1, fixed_end_moments, 18, 6, factors, 12, 3, 0, m, 24, 6, 64, 64));
-    need(tl_dgemm('N', 'N', 6, 4, 3, 1, end_stiffness, 18, 6, x, 12, 3, 1, m, 24, 6, 64, 64));
+    need(tl_dgemm('N', 'N', 3, 4, 3, 1, loads, 9, 3, factors, 12, 3, 0, x, 12, 3, 0, 0));
+    need(tl_dtrsm('L', 'L', 'N', 'N', 3, 4, 1, factor, 9, 3, x, 12, 3, 0, 0));
+    need(tl_dtrsm('L', 'L', 'T', 'N', 3, 4, 1, factor, 9, 3, x, 12, 3, 0, 0));
+    need(tl_dgemm('N', 'N', 6, 4, 3, 1, fixed_end_moments, 18, 6, factors, 12, 3, 0, m, 24, 6, 0, 0));
+    need(tl_dgemm('N', 'N', 6, 4, 3, 1, end_stiffness, 18, 6, x, 12, 3, 1, m, 24, 6, 0, 0));
     print(unknowns, 3, x);
     print(ends, 6, m);
     return EXIT_SUCCESS;

@@ -4,7 +4,7 @@ use portal_frame::{sheet, COMBINATIONS, ENDS, UNKNOWNS};
 use std::process::ExitCode;
 
 const WIDTH: i32 = 3;
-const BLOCK: i32 = 64;
+const BLOCK: i32 = 0;
 const BUDGET: u32 = 4;
 
 /// A line of the table: row `row` of a matrix with a column for each combination.

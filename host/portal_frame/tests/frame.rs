@@ -23,7 +23,7 @@ fn joints_and_storey_are_in_equilibrium() {
 #[test]
 fn every_way_to_run_the_sheet_has_the_bits_of_the_direct_calls() {
     let direct = direct::response(Blocks::default()).unwrap();
-    for (w, r) in [(64, 64), (3, 2), (1, 1)] {
+    for (w, r) in [(0, 0), (64, 64), (3, 2), (1, 1)] {
         for budget in [1, 4, 1000] {
             let finished = sheet::response(w, r, budget).unwrap();
             assert_eq!(finished.answers, [0; 5]);

@@ -23,7 +23,7 @@ fn bad_ld(ld: i32, rows: i32) -> bool {
 }
 
 fn bad_width(w: i32) -> bool {
-    !(1..=64).contains(&w)
+    !(0..=64).contains(&w)
 }
 
 fn short(len: usize, ld: i32, (rows, cols): (i32, i32)) -> bool {

@@ -194,7 +194,7 @@ impl Call {
         if self.empty() {
             return 1;
         }
-        let (d, w) = (self.extent(), self.w);
+        let (d, w) = (self.extent(), width(self.w));
         d / w + if d % w == 0 { 0 } else { 1 }
     }
 }
@@ -202,6 +202,15 @@ impl Call {
 /// The code is the letter, in upper or lower case.
 pub fn is(code: i32, letter: char) -> bool {
     code == letter as i32 || code == letter.to_ascii_lowercase() as i32
+}
+
+/// What a strip width or block size works as: 0 as 64.
+pub fn width(w: i32) -> i32 {
+    if w == 0 {
+        64
+    } else {
+        w
+    }
 }
 
 /// The elements that an array of `rows` and `cols` needs.

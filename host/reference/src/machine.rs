@@ -1,6 +1,6 @@
 //! The plain machine for call sheets: trailer, records, steps and runs.
 
-use crate::{check, loops, Call, Routine, ROUTINES};
+use crate::{check, loops, width, Call, Routine, ROUTINES};
 
 /// The words of a record.
 pub const RECORD: usize = 20;
@@ -141,7 +141,7 @@ fn step(sheet: &[i32], scalars: &[f64], lent: &mut Lent, first: usize, p: usize,
     };
     let call = &record.call;
     if !call.empty() {
-        let (d, w) = (call.extent() as usize, call.w as usize);
+        let (d, w) = (call.extent() as usize, width(call.w) as usize);
         let from = s as usize * w;
         let to = d.min(from + w);
         let before = lent.arrays.clone();

@@ -22,8 +22,8 @@ fn same(x: &[f64], y: &[f64]) -> bool {
 
 /// Makes an accepted call and holds the output against the result, for every width and block size.
 fn row(call: Call, a: &[f64], b: &[f64], out: &[f64], result: &[f64]) {
-    for w in [1, 2, 3, 64] {
-        for r in [1, 2, 3, 64] {
+    for w in [0, 1, 2, 3, 64] {
+        for r in [0, 1, 2, 3, 64] {
             let mut c = out.to_vec();
             assert_eq!(direct(&Call { w, r, ..tight(call) }, a, b, &mut c), 0);
             assert!(same(&c, result), "{c:?} is not {result:?}");
@@ -146,7 +146,11 @@ fn numbers_of_direct_calls() {
     assert_eq!(number(Call { m: 0, lda: 0, ..call }, 1, 1, 1), 8);
     assert_eq!(number(Call { m: 0, ..call }, 1, 1, 1), 0);
     assert_eq!(number(call, 1, 1, 0), 12);
-    assert_eq!(number(Call { w: 65, ..call }, 1, 1, 1), 30);
+    for bad in [-1, 65] {
+        assert_eq!(number(Call { w: bad, ..call }, 1, 1, 1), 30);
+        assert_eq!(number(Call { r: bad, ..call }, 1, 1, 1), 30);
+    }
+    assert_eq!(number(Call { w: 0, r: 0, ..call }, 1, 1, 1), 0);
 }
 
 /// The answer of the only record of a sheet, after one step.
@@ -178,7 +182,7 @@ fn numbers_of_records() {
     assert_eq!(answer(with(good.clone(), 10, -1)), 33);
     assert_eq!(answer(with(good.clone(), 10, 10)), 33);
     assert_eq!(answer(with(good.clone(), 10, 9)), 7);
-    assert_eq!(answer(with(with(good.clone(), 10, 10), 18, 0)), 33);
+    assert_eq!(answer(with(with(good.clone(), 10, 10), 18, -1)), 33);
     assert_eq!(answer(with(with(good, 3, 88), 18, 65)), 30);
     let syrk = record(tight(sized(Routine::Syrk, 0, 1, 1)));
     assert_eq!(answer(with(syrk.clone(), 15, 0)), 32);

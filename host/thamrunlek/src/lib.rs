@@ -138,6 +138,6 @@ mod tests {
         assert_eq!(text(Routine::Syrk, 4), "DSYRK: argument 4 (k) is negative");
         assert_eq!(text(Routine::Trsm, 11), "DTRSM: argument 11 (ldb) is below 1 or below the rows of its matrix");
         assert_eq!(text(Routine::Symm, 11), "DSYMM: argument 11 (c) is shorter than its matrix needs");
-        assert_eq!(text(Routine::Gemm, 30), "DGEMM: the strip width or block size is not 1 to 64");
+        assert_eq!(text(Routine::Gemm, 30), "DGEMM: the strip width or block size is not 0 to 64");
     }
 }

@@ -76,19 +76,12 @@ impl Diagonal {
     }
 }
 
-/// How a call is worked through: its strip width and its block size, both 1 to 64. They change the time that a call
-/// takes and never its result.
-#[derive(Clone, Copy, Debug, PartialEq, Eq)]
+/// How a call is worked through: its strip width and its block size, both 0 to 64, where 0 works as 64. They change the
+/// time that a call takes and never its result. The default, 0 and 0, leaves the choice to the library.
+#[derive(Clone, Copy, Debug, Default, PartialEq, Eq)]
 pub struct Blocks {
     /// The strip width.
     pub width: i32,
     /// The block size.
     pub size: i32,
-}
-
-impl Default for Blocks {
-    /// 64 and 64.
-    fn default() -> Blocks {
-        Blocks { width: 64, size: 64 }
-    }
 }

@@ -88,7 +88,7 @@ impl fmt::Display for Refusal {
     fn fmt(&self, f: &mut fmt::Formatter) -> fmt::Result {
         let name = self.routine.name();
         let Some(argument) = self.argument() else {
-            return write!(f, "{name}: the strip width or block size is not 1 to 64");
+            return write!(f, "{name}: the strip width or block size is not 0 to 64");
         };
         let fault = match argument {
             "side" | "uplo" | "trans" | "transa" | "transb" | "diag" => "is not a code that it takes",

@@ -75,7 +75,7 @@ impl error::Error for RunRefusal {}
 ///     0, 0, 2,          // A is x, with leading dimension 2
 ///     1, 0, 2,          // B is y
 ///     2, 0, 2,          // C is z
-///     1, 64,            // strips of one column, blocks of 64
+///     1, 0,             // strips of one column, blocks as the library chooses
 ///     0, 1,             // the first record is at word 0, and there is one
 /// ];
 /// let scalars = [1.0, 0.0];

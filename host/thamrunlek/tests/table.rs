@@ -10,7 +10,7 @@ const P: f64 = 9007199254740992.0;
 
 /// Makes the call on a copy of the output for several strip widths and block sizes, and expects the result.
 fn row(out: &[f64], result: &[f64], call: impl Fn(&mut [f64], Blocks) -> Result<(), Refusal>) {
-    for (width, size) in [(64, 64), (1, 1), (2, 3), (3, 2)] {
+    for (width, size) in [(0, 0), (64, 64), (1, 1), (2, 3), (3, 2)] {
         let mut c = out.to_vec();
         assert_eq!(call(&mut c, Blocks { width, size }), Ok(()));
         let same = |(x, y): (&f64, &f64)| x.to_bits() == y.to_bits() || (x.is_nan() && y.is_nan());
