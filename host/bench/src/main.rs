@@ -42,7 +42,7 @@ fn run(words: &[&str]) -> Result<(), String> {
         ["picture"] => picture::draw(&libraries::all()?)?,
         ["pairs"] => pairs::report(&libraries::builds()?),
         ["choice"] => choice::report(),
-        ["rank-update"] => rank_update::report(),
+        ["rank-update"] => rank_update::report(&libraries::builds()?)?,
         ["steps"] => steps::report(),
         [] => table::print(&Routine::ALL, &libraries::all()?),
         names => {

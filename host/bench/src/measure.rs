@@ -12,6 +12,11 @@ pub fn median(mut times: Vec<f64>) -> f64 {
     times[times.len() / 2]
 }
 
+/// Whether the elements have the same bits, one by one.
+pub fn same_bits(x: &[f64], y: &[f64]) -> bool {
+    x.len() == y.len() && x.iter().zip(y).all(|(x, y)| x.to_bits() == y.to_bits())
+}
+
 /// A problem, and the times of each library for it. The libraries take turns, batch by batch, on the same arrays, so
 /// that noise hits all alike.
 pub struct Race<'l> {

@@ -33,6 +33,14 @@ pub type Blocks = (i32, i32);
 /// The library's own default.
 pub const BLOCKS: Blocks = (64, 64);
 
+/// The widths and sizes whose pairs are compared; 0 works as 64.
+pub const GRID: [i32; 6] = [0, 8, 16, 32, 48, 64];
+
+/// Every pair of the grid.
+pub fn pairs() -> Vec<Blocks> {
+    GRID.iter().flat_map(|&w| GRID.map(|r| (w, r))).collect()
+}
+
 impl Own {
     /// Those of the library that this program is linked with.
     pub fn linked() -> Own {

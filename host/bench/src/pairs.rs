@@ -2,12 +2,11 @@
 
 use crate::libraries::Library;
 use crate::measure::median;
-use crate::own::{Blocks, Own, BLOCKS};
+use crate::own::{pairs, Blocks, Own, BLOCKS, GRID};
 use crate::problem::{variants, Problem};
 use thamrunlek::Routine;
 
 const N: usize = 512;
-const GRID: [i32; 5] = [8, 16, 32, 48, 64];
 const ROUNDS: usize = 11;
 
 /// How many times as fast as the default each pair is: the median of rounds in which each is timed beside the default.
@@ -27,7 +26,7 @@ fn gains(own: &Own, problem: &Problem, pairs: &[Blocks]) -> Vec<f64> {
 
 /// Prints the best pair for each routine and build.
 pub fn report(builds: &[Library]) {
-    let pairs: Vec<Blocks> = GRID.iter().flat_map(|&w| GRID.map(|r| (w, r))).collect();
+    let pairs = pairs();
     println!("n = {N}, w and r of {GRID:?}, each pair beside w = r = 64, medians of {ROUNDS} rounds");
     for routine in Routine::ALL {
         let problem = Problem::new(routine, variants(routine)[0], N);

@@ -1,7 +1,7 @@
 //! What a step of a call sheet costs beside the strip that it makes: sheets of many tiny calls, each of one strip,
 //! against the same calls made directly, by turns.
 
-use crate::measure::median;
+use crate::measure::{median, same_bits};
 use crate::own::{Own, BLOCKS};
 use crate::problem::{variants, Problem};
 use crate::seconds;
@@ -51,7 +51,7 @@ pub fn report() {
             let run = z.clone();
             z.copy_from_slice(&problem.start);
             calls.push(own.time(&problem, &mut z, RECORDS as u32, BLOCKS));
-            assert!(z.iter().zip(&run).all(|(x, y)| x.to_bits() == y.to_bits()), "the bits differ");
+            assert!(same_bits(&z, &run), "the bits differ");
         }
         let (step, call) = (1e9 * median(steps), 1e9 * median(calls));
         println!("{:7} step {step:6.0} ns, direct call {call:6.0} ns, more by {:6.0} ns", routine.name(), step - call);
