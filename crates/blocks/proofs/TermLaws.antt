@@ -16,7 +16,7 @@ use Rattle.arrays.proofs.PartLaws.{tail-at}
 use Rattle.arrays.proofs.FoldLaws.{fold-none, fold-split, fold-same}
 use Rattle.floats.specs.Operations.{_⊕_, _⊗_}
 use Rattle.floats.specs.Array.{at}
-use Rattle.blocks.specs.Terms.{accumulate, packed}
+use Rattle.blocks.specs.Terms.{accumulate, packed, AtOnce}
 
 pub accumulate-none : (v u : ℕ → Float) (e : Float) → accumulate v u 0 e ≡ e
 unfolding accumulate
@@ -61,6 +61,9 @@ packed-eight u t i j e =
     e ⊕ at t (j * 64 + 0) ⊗ at u p ⊕ at t (j * 64 + 1) ⊗ at u (64 + i) ⊕ at t (j * 64 + 2) ⊗ at u (128 + i) ⊕ at t (j * 64 + 3) ⊗ at u (192 + i)
     ⊕ at t (j * 64 + 4) ⊗ at u (256 + i) ⊕ at t (j * 64 + 5) ⊗ at u (320 + i) ⊕ at t (j * 64 + 6) ⊗ at u (384 + i) ⊕ at t (j * 64 + 7) ⊗ at u (448 + i))
     (zero-add i)
+
+pub at-once-some : {n : ℕ} → AtOnce n → 0 < n
+at-once-some h = ⊎-elim (λ e. omega arith) (⊎-elim (λ e. omega arith) (λ e. omega arith)) h
 
 -- n terms more: their part of u and of t
 pub packed-more : (q n : ℕ) (u t : List Float) (i j : ℕ) (e : Float)

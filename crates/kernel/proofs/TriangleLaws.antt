@@ -1,16 +1,17 @@
--- Laws of a product in one triangle of a diagonal block: a column more, a panel of terms more.
+-- Laws of a product in one triangle of a diagonal block: a column more, the passes that it takes, some terms more, a panel of terms more.
 -- Assumes nothing.
 use mathlib.Core.Bool.{Bool, true, false, and-false}
 use mathlib.Core.Path.{_≡_, refl, sym, ap, ap₂, _∙_}
 use mathlib.Core.Logic.{⊎-elim}
 use mathlib.Core.List.{List}
 use Prim.Native.Nat.{ℕ, _+_, _-_, _*_, _<_, _≤_}
-use native.Mathlib.Nat.{zero-add}
+use native.Mathlib.Nat.{zero-add, add-mul, mul-add, sub-zero}
 use native.Mathlib.Omega.{arith}
 use lib.ListN.{length, take, drop}
 use lib.Ieee.{Float, nan}
 use borrow.Rule.Slice.PartMut.{putMid}
 use borrow.Author.Tests.{lt-ltb, le-ltb, le-leb, lt-leb}
+use Rattle.arrays.specs.Choice.{if_then_else_}
 use Rattle.arrays.specs.Update.{update, below, entries, only, box, region}
 use Rattle.arrays.proofs.UpdateLaws.{lt-or-ge, same-or-not, below-same}
 use Rattle.arrays.proofs.EntryLaws.{box-in, box-row-out, box-column-out, entries-keep, only-out, only-keep, only-then}
@@ -20,9 +21,9 @@ use Rattle.floats.specs.Operations.{_⊗_}
 use Rattle.floats.specs.Array.{at}
 use Rattle.blocks.specs.Terms.{packed}
 use Rattle.packing.specs.Factor.{entryOf, along}
-use Rattle.kernel.specs.Product.{turn, fromRow, fromColumn, partly, corner}
+use Rattle.kernel.specs.Product.{turn, fromRow, fromColumn, partly, corner, passes}
 use Rattle.packing.specs.declared.Form.{Form}
-use Rattle.blocks.proofs.TermLaws.{accumulate-none, accumulate-same, accumulate-split, column-of}
+use Rattle.blocks.proofs.TermLaws.{accumulate-none, accumulate-same, accumulate-split, packed-none, packed-more, column-of}
 use Rattle.packing.proofs.FactorLaws.{along-up}
 use Rattle.kernel.proofs.PanelLaws.{turn-up}
 use Rattle.kernel.proofs.PanelLaws.{held, scaled, turn-along}
@@ -38,21 +39,28 @@ module _ (lower : Bool) (rows cols i j : ℕ) where
   unfolding corner
   corner-column-out h = rw (box-column-out rows cols i j h)
 
-pub lower-in : (rows cols i j : ℕ) → i < rows → j < cols → j ≤ i → corner true rows cols i j ≡ true
-unfolding corner
-lower-in rows cols i j hr hc h = rw (box-in rows cols i j hr hc, le-leb j i h)
+-- The rows of column j in the triangle are `rows` ones, from `first` on.
+abbrev pub Inside : Bool → ℕ → ℕ → ℕ → ℕ → Type 0
+Inside lower order j first rows = (first ≡ (if lower then j else 0)) × (rows ≡ (if lower then order - j else j + 1))
 
-pub upper-in : (rows cols i j : ℕ) → i < rows → j < cols → i ≤ j → corner false rows cols i j ≡ true
-unfolding corner
-upper-in rows cols i j hr hc h = rw (box-in rows cols i j hr hc, le-leb i j h)
+pub rows-room : (lower : Bool) (order j first rows : ℕ) → Inside lower order j first rows → j < order → first + rows ≤ order
+rows-room true order j first rows e h = omega arith
+rows-room false order j first rows e h = omega arith
 
-pub lower-out : (rows cols i j : ℕ) → i < j → corner true rows cols i j ≡ false
+rows-in : (lower : Bool) (order j first rows i : ℕ) → Inside lower order j first rows → j < order → i < rows → corner lower order (j + 1) (first + i) j ≡ true
 unfolding corner
-lower-out rows cols i j h = rw (lt-leb j i h, and-false)
+rows-in true order j first rows i e h b = rw (box-in order (j + 1) (first + i) j (omega arith) (omega arith), le-leb j (first + i) (omega arith))
+rows-in false order j first rows i e h b = rw (box-in order (j + 1) (first + i) j (omega arith) (omega arith), le-leb (first + i) j (omega arith))
 
-pub upper-out : (rows cols i j : ℕ) → j < i → corner false rows cols i j ≡ false
+rows-out : (lower : Bool) (order j first rows i : ℕ) → Inside lower order j first rows → (first ≤ i → i < first + rows → ⊥) → corner lower order (j + 1) i j ≡ false
 unfolding corner
-upper-out rows cols i j h = rw (lt-leb i j h, and-false)
+rows-out true order j first rows i e out =
+    ⊎-elim
+    (λ (b : i < j). rw (lt-leb j i b, and-false))
+    (λ b. corner-row-out true order (j + 1) i j (⊎-elim (λ (z : i < order). absurd (out (omega arith) (omega arith))) (λ z. z) (lt-or-ge i order)))
+    (lt-or-ge i j)
+rows-out false order j first rows i e out =
+    ⊎-elim (λ (b : i < j + 1). absurd (out (omega arith) (omega arith))) (λ b. rw (lt-leb i j (omega arith), and-false)) (lt-or-ge i (j + 1))
 
 -- one column more does not change the mask elsewhere
 same-elsewhere : (lower : Bool) (rows j i c : ℕ) → (c ≡ j → ⊥) → corner lower rows j i c ≡ corner lower rows (j + 1) i c
@@ -71,56 +79,67 @@ unfolding packed
 packed-rows n u t i₀ i j e =
     accumulate-same _ _ _ _ n e (λ p b. refl) (λ p b. tail-at i₀ u (p * 64 + i) nan ∙ ap (at u) (omega arith))
 
-module _ (ld order n j : ℕ) (u t l m ys : List Float) (pos : 0 < ld) (fit : order ≤ ld) (in-block : j < order) where
-  pub lower-next : (a k : ℕ) → a ≡ j * ld + j → a ≤ length l → k ≡ order - j
-      → m ≡ update (entries ld (only (corner true order j) (packed n u t))) l
-      → ys ≡ update (below k (λ i e. packed n (take (length u - j) (drop j u)) (take (length t - j * 64) (drop (j * 64) t)) i 0 e)) (take (length m - a) (drop a m))
-      → putMid a (length m - a) m ys ≡ update (entries ld (only (corner true order (j + 1)) (packed n u t))) l
-  lower-next a k ea al ek em ey =
-      mask-column nan ld pos j j k a (corner true order j) (corner true order (j + 1)) (packed n u t) l m ys (omega arith) ea al em
-      (column-of n k j (take (length u - j) (drop j u)) t (take (length m - a) (drop a m)) ys ey
-      ∙ below-same _ _ (take (length m - a) (drop a m)) k (λ i b x. packed-rows n u t j i j x))
-      (λ i b. corner-column-out true order j (j + i) j (omega arith))
-      (λ i b. lower-in order (j + 1) (j + i) j (omega arith) (omega arith) (omega arith))
+-- a column more
+module _ (lower : Bool) (ld order n j first rows : ℕ) (u t l m ys : List Float) (pos : 0 < ld) (fit : order ≤ ld) (in-block : j < order) where
+  pub corner-next : Inside lower order j first rows → j * ld + first ≤ length l
+      → m ≡ update (entries ld (only (corner lower order j) (packed n u t))) l
+      → ys ≡ update (below rows (λ i e. packed n (take (length u - first) (drop first u)) (take (length t - j * 64) (drop (j * 64) t)) i 0 e)) (take (length m - (j * ld + first)) (drop (j * ld + first) m))
+      → putMid (j * ld + first) (length m - (j * ld + first)) m ys ≡ update (entries ld (only (corner lower order (j + 1)) (packed n u t))) l
+  corner-next inside al em ey =
+      mask-column nan ld pos first j rows (j * ld + first) (corner lower order j) (corner lower order (j + 1)) (packed n u t) l m ys
+      (omega (arith, rows-room lower order j first rows inside in-block)) refl al em
+      (column-of n rows j (take (length u - first) (drop first u)) t (take (length m - (j * ld + first)) (drop (j * ld + first) m)) ys ey
+      ∙ below-same _ _ (take (length m - (j * ld + first)) (drop (j * ld + first) m)) rows (λ i b x. packed-rows n u t first i j x))
+      (λ i b. corner-column-out lower order j (first + i) j (omega arith))
+      (λ i b. rows-in lower order j first rows i inside in-block b)
       (λ i c out. ⊎-elim
-      (λ (h : j ≡ c). elsewhere i c (sym h) (λ u v. out u v (sym h)))
-      (λ h. same-elsewhere true order j i c (λ z. h (sym z)))
-      (same-or-not j c))
-    where
-      elsewhere : (i c : ℕ) → c ≡ j → (j ≤ i → i < j + k → ⊥) → corner true order j i c ≡ corner true order (j + 1) i c
-      elsewhere i c e out =
-          corner-column-out true order j i c (omega arith)
-          ∙ sym (⊎-elim
-          (λ (h : i < j). lower-out order (j + 1) i c (omega arith))
-          (λ h. corner-row-out true order (j + 1) i c (⊎-elim (λ (z : i < order). absurd (out h (omega arith))) (λ z. z) (lt-or-ge i order)))
-          (lt-or-ge i j))
-
-  pub upper-next : (a k : ℕ) → a ≡ j * ld → a ≤ length l → k ≡ j + 1
-      → m ≡ update (entries ld (only (corner false order j) (packed n u t))) l
-      → ys ≡ update (below k (λ i e. packed n u (take (length t - j * 64) (drop (j * 64) t)) i 0 e)) (take (length m - a) (drop a m))
-      → putMid a (length m - a) m ys ≡ update (entries ld (only (corner false order (j + 1)) (packed n u t))) l
-  upper-next a k ea al ek em ey =
-      mask-column nan ld pos 0 j k a (corner false order j) (corner false order (j + 1)) (packed n u t) l m ys (omega arith) (omega arith) al em
-      (column-of n k j u t (take (length m - a) (drop a m)) ys ey
-      ∙ below-same _ _ (take (length m - a) (drop a m)) k (λ i b x. ap (λ (r : ℕ). packed n u t r j x) (sym (zero-add i))))
-      (λ i b. corner-column-out false order j (0 + i) j (omega arith))
-      (λ i b. upper-in order (j + 1) (0 + i) j (omega arith) (omega arith) (omega arith))
-      (λ i c out. ⊎-elim
-      (λ (h : j ≡ c). elsewhere i c (sym h) (λ v. out (omega arith) v (sym h)))
-      (λ h. same-elsewhere false order j i c (λ z. h (sym z)))
-      (same-or-not j c))
-    where
-      elsewhere : (i c : ℕ) → c ≡ j → (i < 0 + k → ⊥) → corner false order j i c ≡ corner false order (j + 1) i c
-      elsewhere i c e out =
-          corner-column-out false order j i c (omega arith)
-          ∙ sym (⊎-elim
-          (λ (h : i < j + 1). absurd (out (omega arith)))
-          (λ h. upper-out order (j + 1) i c (omega arith))
-          (lt-or-ge i (j + 1)))
+      (λ (h : c ≡ j). corner-column-out lower order j i c (omega arith)
+      ∙ sym (ap (corner lower order (j + 1) i) h ∙ rows-out lower order j first rows i inside (λ v w. out v w h)))
+      (λ h. same-elsewhere lower order j i c h)
+      (same-or-not c j))
 
 pub corner-none : (lower : Bool) (ld order n : ℕ) (u t l : List Float) → l ≡ update (entries ld (only (corner lower order 0) (packed n u t))) l
 corner-none lower ld order n u t l =
     sym (entries-keep ld _ l (λ i j x. only-out (corner lower order 0) (packed n u t) i j x (corner-column-out lower order 0 i j (omega arith))))
+
+-- ---- the passes
+
+passes-more : (t : ℕ) → passes (t + 1) ≡ passes t + (t + 1)
+unfolding passes
+passes-more t = omega (arith, add-mul t 1 (t + 1 + 1), mul-add t (t + 1) 1)
+
+-- `count` passes are those of the columns below j.
+abbrev pub Counted : Bool → ℕ → ℕ → ℕ → Type 0
+Counted lower order j count = if lower then (count + passes (order - j) ≡ passes order) else (count ≡ passes j)
+
+pub counted-none : (lower : Bool) (order : ℕ) → Counted lower order 0 0
+unfolding passes
+counted-none true order = zero-add _ ∙ ap passes (sub-zero order)
+counted-none false order = refl
+
+pub counted-more : (lower : Bool) (order j first rows count : ℕ) → Inside lower order j first rows → j < order → Counted lower order j count
+    → Counted lower order (j + 1) (count + rows)
+counted-more true order j first rows count inside h e =
+    let k : order - (j + 1) + 1 ≡ order - j = omega arith in omega (arith, e, ap passes k, passes-more (order - (j + 1)))
+counted-more false order j first rows count inside h e = omega (arith, e, passes-more j)
+
+pub counted-all : (lower : Bool) (order count : ℕ) → Counted lower order order count → count ≡ passes order
+unfolding passes
+counted-all true order count e = let k : order - order ≡ 0 = omega arith in omega (arith, e, ap passes k)
+counted-all false order count e = e
+
+-- ---- some terms more
+
+module _ (lower : Bool) (ld order : ℕ) (u t l : List Float) where
+  pub walked-none : l ≡ update (entries ld (only (corner lower order order) (packed 0 u t))) l
+  walked-none = sym (entries-keep ld _ l (λ i j x. only-keep (corner lower order order) _ i j x (packed-none u t i j x)))
+
+  pub walked-more : (q n : ℕ) (m r : List Float) → 0 < ld
+      → m ≡ update (entries ld (only (corner lower order order) (packed q u t))) l
+      → r ≡ update (entries ld (only (corner lower order order) (packed n (take (length u - q * 64) (drop (q * 64) u)) (take (length t - q) (drop q t))))) m
+      → r ≡ update (entries ld (only (corner lower order order) (packed (q + n) u t))) l
+  walked-more q n m r pos em er =
+      only-then ld (corner lower order order) (packed q u t) _ (packed (q + n) u t) l m r pos em er (λ i j h x. packed-more q n u t i j x)
 
 -- ---- a panel of terms more
 

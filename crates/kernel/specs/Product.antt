@@ -7,9 +7,10 @@
 --     strided     a factor that is read by two strides: entry (i, j) is element i * r + j * c
 --     rowStride, columnStride   the strides of a form
 --     corner      the mask of a triangle, diagonal included, in the rows below `rows` and the columns below `cols`
+--     passes      how many passes a walk over a diagonal block makes
 use mathlib.Core.Bool.{Bool, true, false, _&&_}
 use mathlib.Core.List.{List}
-use Prim.Native.Nat.{ℕ, _+_, _-_, _*_}
+use Prim.Native.Nat.{ℕ, _+_, _-_, _*_, _/_}
 use lib.Dec.{leb}
 use lib.Ieee.{Float}
 use Rattle.arrays.specs.Choice.{if_then_else_}
@@ -59,3 +60,7 @@ fromColumn j₀ M l j = M l (j₀ + j)
 
 unfoldable pub corner : Bool → ℕ → ℕ → Mask
 corner lower rows cols i j = box rows cols i j && (if lower then leb j i else leb i j)
+
+-- "One walk over a diagonal block of order t then makes exactly t·(t+1)/2 passes" (document 02, K3).
+unfoldable pub passes : ℕ → ℕ
+passes t = t * (t + 1) / 2

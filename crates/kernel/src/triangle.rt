@@ -1,56 +1,66 @@
 // A product that is restricted to one triangle of a diagonal block: each column's loop stays inside the triangle.
 ghost use mathlib.Core.Path.{_≡_};
-ghost use mathlib.Core.Bool.{true, false};
+ghost use mathlib.Core.Bool.{false};
 ghost use Prim.Native.Nat.{ℕ, _+_, _*_, _≤_, _<_};
 ghost use lib.ListN.{length};
+ghost use Rattle.arrays.specs.Choice.{if_then_else_};
 ghost use Rattle.arrays.specs.Update.{update, entries, only};
-ghost use Rattle.blocks.specs.Terms.{packed};
+ghost use Rattle.blocks.specs.Terms.{packed, AtOnce};
 ghost use Rattle.packing.specs.Factor.{indexOf, entryOf};
-ghost use Rattle.kernel.specs.Product.{fromRow, fromColumn, product, corner};
+ghost use Rattle.kernel.specs.Product.{fromRow, fromColumn, product, corner, passes};
 use super::panels;
-use blocks::block;
+use blocks::leaves;
 use blocks::pass;
 use packing::Form;
 use packing::pack;
 
-// The product of two packed blocks in the lower triangle: column j from the diagonal down.
-fn walk_lower(c: &mut [f64], ld: usize, order: usize, terms: usize, u: &[f64], t: &[f64])
-    requires { ⌜ (0 < ld) × (order ≤ ld) × (order * ld + order ≤ length (now c) + ld) × (order ≤ 64) × (terms ≤ 64) × (4096 ≤ length (now u)) × (4096 ≤ length (now t)) ⌝ }
-    ensures { λ _. ⌜ now (c .exit) ≡ update (entries ld (only (corner true order order) (packed terms (now (u .entry)) (now (t .entry))))) (now (c .entry)) ⌝ }
+// x in the lower triangle, y in the upper one.
+pub fn pick(lower: bool, x: usize, y: usize) -> usize
+    ensures { λ r. ⌜ r ≡ (if lower then x else y) ⌝ }
 {
-    let mut j = 0;
-    while j < order {
-        let from = j * ld + j;
-        let x = j * 64;
-        block::column(&mut c[from..], order - j, terms, &u[j..], &t[x..]);
-        j += 1;
-    }
+    if lower { x } else { y }
 }
 
-// The same in the upper triangle: column j from the top to the diagonal.
-fn walk_upper(c: &mut [f64], ld: usize, order: usize, terms: usize, u: &[f64], t: &[f64])
-    requires { ⌜ (0 < ld) × (order ≤ ld) × (order * ld + order ≤ length (now c) + ld) × (order ≤ 64) × (terms ≤ 64) × (4096 ≤ length (now u)) × (4096 ≤ length (now t)) ⌝ }
-    ensures { λ _. ⌜ now (c .exit) ≡ update (entries ld (only (corner false order order) (packed terms (now (u .entry)) (now (t .entry))))) (now (c .entry)) ⌝ }
+// One walk over a diagonal block: as many terms as one pass takes are added to each element of the triangle. A column's loop stays inside it, from the diagonal to the block's end
+// or from the top to the diagonal, and the walk hands back how many passes it made.
+fn walk(
+    lower: bool,
+    c: &mut [f64],
+    ld: usize,
+    order: usize,
+    terms: usize,
+    u: &[f64],
+    t: &[f64],
+) -> usize
+    requires { ⌜ (0 < ld) × (order ≤ ld) × (order * ld + order ≤ length (now c) + ld) × (order ≤ 64) ⌝ }
+    requires { ⌜ (AtOnce terms) × (terms * 64 ≤ length (now u)) × (order * 64 + terms ≤ length (now t) + 64) ⌝ }
+    ensures { λ r. ⌜ (r ≡ passes order) × (now (c .exit) ≡ update (entries ld (only (corner lower order order) (packed terms (now (u .entry)) (now (t .entry))))) (now (c .entry))) ⌝ }
 {
+    let mut count = 0;
     let mut j = 0;
     while j < order {
-        let from = j * ld;
+        let first = pick(lower, j, 0);
+        let rows = pick(lower, order - j, j + 1);
+        let from = j * ld + first;
         let x = j * 64;
-        block::column(&mut c[from..], j + 1, terms, u, &t[x..]);
+        count += leaves::axpys(&mut c[from..], rows, terms, &u[first..], &t[x..]);
         j += 1;
     }
+    count
 }
 
-// The product of two packed blocks in one triangle of an order by order block.
-fn walk(lower: bool, c: &mut [f64], ld: usize, order: usize, terms: usize, u: &[f64], t: &[f64])
+// The product of two packed blocks in one triangle, by as many walks as its terms ask for.
+fn walks(lower: bool, c: &mut [f64], ld: usize, order: usize, terms: usize, u: &[f64], t: &[f64])
     requires { ⌜ (0 < ld) × (order ≤ ld) × (order * ld + order ≤ length (now c) + ld) × (order ≤ 64) × (terms ≤ 64) × (4096 ≤ length (now u)) × (4096 ≤ length (now t)) ⌝ }
     ensures { λ _. ⌜ now (c .exit) ≡ update (entries ld (only (corner lower order order) (packed terms (now (u .entry)) (now (t .entry))))) (now (c .entry)) ⌝ }
 {
-    if lower {
-        walk_lower(c, ld, order, terms, u, t);
-        return;
+    let mut q = 0;
+    while q < terms {
+        let n = leaves::at_once(terms - q);
+        let x = q * 64;
+        walk(lower, c, ld, order, n, &u[x..], &t[q..]);
+        q += n;
     }
-    walk_upper(c, ld, order, terms, u, t);
 }
 
 // The product by panels of r terms, with the buffers u and t.
@@ -84,7 +94,7 @@ fn triangle_panels(
         pack::pack(t, n, order, fb, b, ldb, l, false, j0, false);
         pass::scale(t, 64, n, order, alpha);
         pack::pack(u, order, n, fa, a, lda, i0, false, l, false);
-        walk(lower, c, ld, order, n, u, t);
+        walks(lower, c, ld, order, n, u, t);
         l += n;
     }
 }

@@ -3,7 +3,6 @@ ghost use mathlib.Core.Path.{_≡_};
 ghost use mathlib.Core.Bool.{false};
 ghost use Prim.Native.Nat.{ℕ, _+_, _*_, _≤_, _<_};
 ghost use lib.ListN.{length};
-ghost use Rattle.arrays.specs.Choice.{if_then_else_};
 ghost use Rattle.arrays.specs.Update.{update, entries, only};
 ghost use Rattle.definitions.specs.Number.{start};
 ghost use Rattle.definitions.specs.Element.{StripOf};
@@ -16,6 +15,7 @@ use definitions::Call;
 use definitions::Scalar;
 use definitions::Transpose;
 use definitions::Triangle;
+use kernel::triangle::pick;
 use packing::Form;
 
 fn is_lower(t: Triangle) -> bool
@@ -35,13 +35,6 @@ fn transposed_form(t: Transpose) -> Form
         Transpose::No => Form::Transposed,
         Transpose::Yes => Form::Plain,
     }
-}
-
-// x in the lower triangle, y in the upper one.
-fn pick(lower: bool, x: usize, y: usize) -> usize
-    ensures { λ r. ⌜ r ≡ (if lower then x else y) ⌝ }
-{
-    if lower { x } else { y }
 }
 
 // The start in the strip's part of the triangle: column g of C from the diagonal down, or from the top to the diagonal.

@@ -1,4 +1,4 @@
--- `leaves::axpy` meets its contract: the elements below i are done.
+-- `leaves::axpy` meets its contract: the elements below i are done and counted.
 -- Assumes nothing.
 use Prim.Native.Nat.{_≤_, _-_}
 use mathlib.Core.Path.{_≡_, refl, sym, ap, _∙_}
@@ -14,16 +14,16 @@ use Rattle.blocks.proofs.leaves.axpy.Statement.{statement}
 use Rattle.blocks.proofs.leaves.axpy.Tie as tie
 
 abbrev Inv-loop : tie.InvT-loop
-Inv-loop c₀ n u t t0 i₀ c i = (i ≤ n) × (length c ≡ length c₀) × (c ≡ update (below i (λ p e. packed 1 u t p 0 e)) c₀)
+Inv-loop c₀ n u t t0 count₀ i₀ c count i = (i ≤ n) × (count ≡ i) × (length c ≡ length c₀) × (c ≡ update (below i (λ p e. packed 1 u t p 0 e)) c₀)
 
 abbrev μ-loop : tie.MeasureT-loop
-μ-loop c₀ n u t t0 i₀ c i = n - i
+μ-loop c₀ n u t t0 count₀ i₀ c count i = n - i
 
 shared-slice-read-t0 : tie.Need-shared-slice-read-t0 Inv-loop μ-loop
 shared-slice-read-t0 c = omega arith
 
 loop-holds : tie.Need-loop-holds Inv-loop μ-loop
-loop-holds c = (omega arith, refl, below-none _ _)
+loop-holds c = (omega arith, refl, refl, below-none _ _)
 
 mul-c : tie.Need-mul-c Inv-loop μ-loop
 mul-c c = omega arith
@@ -43,6 +43,9 @@ mul-c-3 c = omega arith
 slice-write-c : tie.Need-slice-write-c Inv-loop μ-loop
 slice-write-c c = omega arith
 
+add-count : tie.Need-add-count Inv-loop μ-loop
+add-count c = omega arith
+
 add-i : tie.Need-add-i Inv-loop μ-loop
 add-i c = omega arith
 
@@ -52,15 +55,16 @@ loop-less c = search needs
 loop-again : tie.Need-loop-again Inv-loop μ-loop
 loop-again c = (
   omega arith,
+  omega arith,
   simp length-set (omega arith),
-  ap (λ (x : Float). set (c .before .before .before .loop .c) (c .before .before .before .loop .i) x) (sym (packed-one _ _ _ 0 _)) ∙ below-more nan _ _ _ _ (c .before .before .before .loop .inv .2) (omega arith),
+  ap (λ (x : Float). set (c .before .before .before .loop .c) (c .before .before .before .loop .i) x) (sym (packed-one _ _ _ 0 _)) ∙ below-more nan _ _ _ _ (c .before .before .before .loop .inv .3) (omega arith),
 )
 
 same-length : tie.Need-same-length Inv-loop μ-loop
 same-length c = omega arith
 
 returns : tie.Need-returns Inv-loop μ-loop
-returns c = let e : c .before .loop .i ≡ c .before .before .before .args .n = omega arith in rw e at (c .before .loop .inv .2)
+returns c = let e : c .before .loop .i ≡ c .before .before .before .args .n = omega arith in (omega arith, rw e at (c .before .loop .inv .3))
 
 pub axpy-spec : {M : Type 1} → statement M
 axpy-spec =
@@ -76,6 +80,7 @@ axpy-spec =
     shared-slice-read-c
     mul-c-3
     slice-write-c
+    add-count
     add-i
     loop-less
     loop-again

@@ -1,4 +1,4 @@
--- `leaves::axpy8` meets its contract: the elements below i are done.
+-- `leaves::axpy8` meets its contract: the elements below i are done and counted.
 -- Assumes nothing.
 use Prim.Native.Nat.{_≤_, _-_}
 use mathlib.Core.Path.{_≡_, refl, sym, ap, _∙_}
@@ -14,10 +14,10 @@ use Rattle.blocks.proofs.leaves.axpy8.Statement.{statement}
 use Rattle.blocks.proofs.leaves.axpy8.Tie as tie
 
 abbrev Inv-loop : tie.InvT-loop
-Inv-loop c₀ n u t t0 t1 t2 t3 t4 t5 t6 t7 i₀ c i = (i ≤ n) × (length c ≡ length c₀) × (c ≡ update (below i (λ p e. packed 8 u t p 0 e)) c₀)
+Inv-loop c₀ n u t t0 t1 t2 t3 t4 t5 t6 t7 count₀ i₀ c count i = (i ≤ n) × (count ≡ i) × (length c ≡ length c₀) × (c ≡ update (below i (λ p e. packed 8 u t p 0 e)) c₀)
 
 abbrev μ-loop : tie.MeasureT-loop
-μ-loop c₀ n u t t0 t1 t2 t3 t4 t5 t6 t7 i₀ c i = n - i
+μ-loop c₀ n u t t0 t1 t2 t3 t4 t5 t6 t7 count₀ i₀ c count i = n - i
 
 shared-slice-read-t0 : tie.Need-shared-slice-read-t0 Inv-loop μ-loop
 shared-slice-read-t0 c = omega arith
@@ -44,7 +44,7 @@ shared-slice-read-t7 : tie.Need-shared-slice-read-t7 Inv-loop μ-loop
 shared-slice-read-t7 c = omega arith
 
 loop-holds : tie.Need-loop-holds Inv-loop μ-loop
-loop-holds c = (omega arith, refl, below-none _ _)
+loop-holds c = (omega arith, refl, refl, below-none _ _)
 
 mul-x : tie.Need-mul-x Inv-loop μ-loop
 mul-x c = omega arith
@@ -127,6 +127,9 @@ mul-c-5 c = omega arith
 slice-write-c : tie.Need-slice-write-c Inv-loop μ-loop
 slice-write-c c = omega arith
 
+add-count : tie.Need-add-count Inv-loop μ-loop
+add-count c = omega arith
+
 add-i : tie.Need-add-i Inv-loop μ-loop
 add-i c = omega arith
 
@@ -136,15 +139,16 @@ loop-less c = search needs
 loop-again : tie.Need-loop-again Inv-loop μ-loop
 loop-again c = (
   omega arith,
+  omega arith,
   simp length-set (omega arith),
-  ap (λ (x : Float). set (c .before .before .before .before .before .before .before .before .before .before .loop .c) (c .before .before .before .before .before .before .before .before .before .before .loop .i) x) (sym (packed-eight _ _ _ 0 _)) ∙ below-more nan _ _ _ _ (c .before .before .before .before .before .before .before .before .before .before .loop .inv .2) (omega arith),
+  ap (λ (x : Float). set (c .before .before .before .before .before .before .before .before .before .before .loop .c) (c .before .before .before .before .before .before .before .before .before .before .loop .i) x) (sym (packed-eight _ _ _ 0 _)) ∙ below-more nan _ _ _ _ (c .before .before .before .before .before .before .before .before .before .before .loop .inv .3) (omega arith),
 )
 
 same-length : tie.Need-same-length Inv-loop μ-loop
 same-length c = omega arith
 
 returns : tie.Need-returns Inv-loop μ-loop
-returns c = let e : c .before .loop .i ≡ c .before .before .before .before .before .before .before .before .before .before .args .n = omega arith in rw e at (c .before .loop .inv .2)
+returns c = let e : c .before .loop .i ≡ c .before .before .before .before .before .before .before .before .before .before .args .n = omega arith in (omega arith, rw e at (c .before .loop .inv .3))
 
 pub axpy8-spec : {M : Type 1} → statement M
 axpy8-spec =
@@ -188,6 +192,7 @@ axpy8-spec =
     shared-slice-read-c-4
     mul-c-5
     slice-write-c
+    add-count
     add-i
     loop-less
     loop-again
