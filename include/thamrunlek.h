@@ -8,9 +8,9 @@
  *
  * Codes are character numbers, in upper or lower case, as 'N' or 'n'.
  *
- * Every call of a routine returns 0, or the number of its first bad argument, and then it has written nothing. The
- * strip width and the block size are tested first (30); then codes, sizes and leading dimensions, in the order of the
- * numbers given below; then the lengths of the arrays, in that order too.
+ * Every call of a routine returns 0, or the number of its first bad argument, and then it has written nothing; TRSM
+ * returns it in a SolveEnd. The strip width and the block size are tested first (30); then codes, sizes and leading
+ * dimensions, in the order of the numbers given below; then the lengths of the arrays, in that order too.
  *
  * The result of a call is fixed to the last bit. Each element starts as +0.0 if beta is zero (the old element is not
  * read), as the old element if beta is one, and else as beta times it. Then, unless alpha is zero, each term turns the
@@ -146,10 +146,22 @@ int32_t tl_dtrmm(int32_t side, int32_t uplo, int32_t transa, int32_t diag, int32
                  const double *a, size_t a_len, int32_t lda, double *b, size_t b_len, int32_t ldb,
                  int32_t w, int32_t r);
 
+/* What a solve returns.
+ *
+ * number  0, or the number of the first bad argument, and then the solve has written nothing.
+ * zero    the lowest index, from 0, at which the diagonal of A is zero, +0.0 or -0.0; or -1 if there is none. It is -1
+ *         too if diag is U, if alpha, m or n is zero, and of a refused solve.
+ */
+struct SolveEnd {
+    int32_t number;
+    int32_t zero;
+};
+
 /* TRSM, the solution with a triangular matrix A: B becomes X with op(A) * X = alpha * B or X * op(A) = alpha * B, where
  * op(A) is A or its transpose. Each element starts as alpha times the old one. In the order of solving each element
  * already solved turns the sum e into e + (-1.0 * v) * u, u from the left factor and v from the right; at the end e is
- * divided by the diagonal element, unless diag is U. Nothing tests whether A is singular.
+ * divided by the diagonal element, unless diag is U. A zero on the diagonal is not refused: the quotients stand, and
+ * the SolveEnd names the lowest one.
  *
  *  1  side    L: op(A) stands left of X. R: op(A) stands right of X.
  *  2  uplo    L: A is lower triangular, and only its lower triangle is read. U: the same for the upper one.
@@ -168,9 +180,9 @@ int32_t tl_dtrmm(int32_t side, int32_t uplo, int32_t transa, int32_t diag, int32
  * 30  w       strip width, as for TRMM.
  * 30  r       block size, as for GEMM: the unknowns that are worked on at a time.
  */
-int32_t tl_dtrsm(int32_t side, int32_t uplo, int32_t transa, int32_t diag, int32_t m, int32_t n, double alpha,
-                 const double *a, size_t a_len, int32_t lda, double *b, size_t b_len, int32_t ldb,
-                 int32_t w, int32_t r);
+struct SolveEnd tl_dtrsm(int32_t side, int32_t uplo, int32_t transa, int32_t diag, int32_t m, int32_t n, double alpha,
+                         const double *a, size_t a_len, int32_t lda, double *b, size_t b_len, int32_t ldb,
+                         int32_t w, int32_t r);
 
 /* What a run of a call sheet returns.
  *
@@ -181,12 +193,15 @@ int32_t tl_dtrsm(int32_t side, int32_t uplo, int32_t transa, int32_t diag, int32
  *         record p.
  * p, s    the new cursor; of a refused run, the one that it was given. The sheet is finished when p is the count.
  * steps   the steps made, 0 for a refused run.
+ * zero    of the records whose last strip this run made, the first whose solve has a zero on the diagonal, by the rules
+ *         of SolveEnd; or -1 if there is none. It is -1 too of a refused run.
  */
 struct RunEnd {
     int32_t number;
     int32_t p;
     int32_t s;
     uint32_t steps;
+    int32_t zero;
 };
 
 /* A run of a call sheet: at most budget steps of it, from the cursor (p, s) on.

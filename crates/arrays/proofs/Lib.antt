@@ -4,3 +4,4 @@ pub mod EntryLaws
 pub mod PartLaws
 pub mod RegionLaws
 pub mod FoldLaws
+pub mod SearchLaws

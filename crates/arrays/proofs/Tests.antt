@@ -12,6 +12,9 @@ pub and-right : (a b : Bool) → (a && b) ≡ true → b ≡ true
 and-right true b h = h
 and-right false b h = absurd (true≢false (sym h))
 
+pub and-true : (a b : Bool) → a ≡ true → (a && b) ≡ b
+and-true a b h = rw h refl
+
 pub or-left : (a b : Bool) → (a || b) ≡ false → a ≡ false
 or-left true b h = h
 or-left false b h = refl
@@ -23,6 +26,13 @@ or-right false b h = h
 pub or-both : (a b : Bool) → a ≡ false → b ≡ false → (a || b) ≡ false
 or-both true b h k = h
 or-both false b h k = k
+
+pub or-first : (a b : Bool) → a ≡ true → (a || b) ≡ true
+or-first a b h = rw h refl
+
+pub or-second : (a b : Bool) → b ≡ true → (a || b) ≡ true
+or-second true b h = refl
+or-second false b h = h
 
 module _ {A : Type 0} where
   pub if-true : (b : Bool) (x y : A) → b ≡ true → (if b then x else y) ≡ x

@@ -1,3 +1,4 @@
 pub mod Choice
 pub mod Update
 pub mod Fold
+pub mod Search

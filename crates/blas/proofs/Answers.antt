@@ -7,13 +7,15 @@ use native.Mathlib.Omega.{arith}
 use lib.IntN.{ℤ, pos}
 use lib.Ieee.{Float}
 use Rattle.arrays.specs.Choice.{if_then_else_}
+use Rattle.arrays.specs.Search.{none}
 use Rattle.definitions.specs.Call.{inPlace}
-use Rattle.definitions.specs.Element.{result}
-use Rattle.definitions.specs.Check.{width, callOf, checked, number, leaves}
-use Rattle.definitions.specs.Direct.{done}
+use Rattle.definitions.specs.Element.{zeroOf, result}
+use Rattle.definitions.specs.Check.{width, callOf, checked, number, leaves, reports}
+use Rattle.definitions.specs.Direct.{done, solved}
 use Rattle.definitions.specs.declared.Routine.{Routine}
 use Rattle.definitions.specs.declared.Args.{Args}
 use Rattle.definitions.specs.declared.Call.{Call}
+use Rattle.definitions.specs.declared.SolveEnd.{SolveEnd}
 use Rattle.definitions.specs.declared.Checked.{Checked}
 use Rattle.definitions.specs.declared.Checked.the-variants.{Refused, Idle, Ready}
 use Rattle.definitions.proofs.CheckLaws as CheckLaws
@@ -21,18 +23,23 @@ use Rattle.definitions.proofs.CheckLaws.{strip-width, block-size}
 use Rattle.definitions.proofs.Fits.{Fits, ready-fits}
 use Rattle.strips.specs.Lengths.{FitsArrays}
 
-module _ (k : Checked) (a b out : List Float) where
-  pub when-refused : (e : ℕ) → k ≡ Refused e → (pos e ≡ number k) × (out ≡ leaves k a b out)
-  unfolding number leaves
-  when-refused e h = (ap number (sym h), ap (λ (k : Checked). leaves k a b out) (sym h))
+module _ (a b out : List Float) where
+  -- The number, the output's array and the report are those that the answer means.
+  abbrev pub Meant : Checked → ℤ → List Float → ℤ → Type 0
+  Meant k x ys z = (x ≡ number k) × (ys ≡ leaves k a b out) × (z ≡ reports k a)
 
-  pub when-idle : k ≡ Idle → (pos 0 ≡ number k) × (out ≡ leaves k a b out)
-  unfolding number leaves
-  when-idle h = (ap number (sym h), ap (λ (k : Checked). leaves k a b out) (sym h))
+  module _ (k : Checked) where
+    pub when-refused : (e : ℕ) → k ≡ Refused e → Meant k (pos e) out none
+    unfolding number leaves reports
+    when-refused e h = subst (λ (k : Checked). Meant k (pos e) out none) (sym h) (refl, refl, refl)
 
-  pub when-ready : (c : Call) (ys : List Float) → k ≡ Ready c → ys ≡ result c a b out → (pos 0 ≡ number k) × (ys ≡ leaves k a b out)
-  unfolding number leaves
-  when-ready c ys h e = (ap number (sym h), e ∙ ap (λ (k : Checked). leaves k a b out) (sym h))
+    pub when-idle : k ≡ Idle → Meant k (pos 0) out none
+    unfolding number leaves reports
+    when-idle h = subst (λ (k : Checked). Meant k (pos 0) out none) (sym h) (refl, refl, refl)
+
+    pub when-ready : (c : Call) (ys : List Float) (z : ℤ) → k ≡ Ready c → (ys ≡ result c a b out) × (z ≡ zeroOf (c .routine) c a) → Meant k (pos 0) ys z
+    unfolding number leaves reports
+    when-ready c ys z h e = subst (λ (k : Checked). Meant k (pos 0) ys z) (sym h) (refl, e .0, e .1)
 
 -- ---- what a direct call hands on
 
@@ -76,7 +83,16 @@ module _ (w r : ℤ) (g : Args) (k : Checked) (answer : k ≡ checked w r g) whe
         omega (arith, y),
       )
 
-  -- the number and the array are those of the direct call
-  pub is-done : (a b out ys : List Float) (x : ℤ) → (x ≡ number k) × (ys ≡ leaves k a b out) → (x ≡ done w r g a b out .number) × (ys ≡ done w r g a b out .array)
-  unfolding done
-  is-done a b out ys x h = (h .0 ∙ ap number answer, h .1 ∙ ap (λ (k : Checked). leaves k a b out) answer)
+  module _ (a b out ys : List Float) (x z : ℤ) (h : Meant a b out k x ys z) where
+    meant : Meant a b out (checked w r g) x ys z
+    meant = subst (λ (k : Checked). Meant a b out k x ys z) answer h
+
+    -- the number and the array are those of the direct call
+    pub is-done : (x ≡ done w r g a b out .number) × (ys ≡ done w r g a b out .array)
+    unfolding done
+    is-done = (meant .0, meant .1)
+
+    -- the report is that of the solve
+    pub is-solved : (_≡_ {A = SolveEnd} (record { number = x; zero = z }) (solved w r g a b out .end)) × (ys ≡ solved w r g a b out .array)
+    unfolding done solved
+    is-solved = (λ i. record { number = meant .0 i; zero = meant .2 i }, meant .1)

@@ -2,7 +2,6 @@
 ghost use mathlib.Core.Path.{_≡_};
 ghost use Prim.Native.Nat.{ℕ, _+_, _≤_, _<_};
 ghost use lib.ListN.{length};
-ghost use Rattle.definitions.specs.Call as Calls;
 ghost use Rattle.definitions.specs.Element as Element;
 ghost use Rattle.definitions.specs.Check as Check;
 ghost use Rattle.definitions.specs.Direct as Direct;
@@ -14,35 +13,45 @@ use definitions::Call;
 use definitions::Checked;
 use definitions::Routine;
 use definitions::Scalar;
+use definitions::SolveEnd;
 
-// All strips of a call that fits, each of w columns or rows but for the last.
-fn complete(call: Call, a: &[f64], b: &[f64], out: &mut [f64], w: usize, r: usize)
+// All strips of a call that fits, each of w columns or rows but for the last. It hands back what the last one reports, which is what each of them does.
+fn complete(call: Call, a: &[f64], b: &[f64], out: &mut [f64], w: usize, r: usize) -> i32
     requires { ⌜ FitsArrays call (length (now a)) (length (now b)) (length (now out)) ⌝ }
     requires { ⌜ (0 < w) × (w ≤ 64) × (0 < r) × (r ≤ 64) ⌝ }
-    ensures { λ _. ⌜ now (out .exit) ≡ Element.result call (now (a .entry)) (now (b .entry)) (now (out .entry)) ⌝ }
+    ensures { λ x. ⌜ (now (out .exit) ≡ Element.result call (now (a .entry)) (now (b .entry)) (now (out .entry))) × (x ≡ Element.zeroOf (call .routine) call (now (a .entry))) ⌝ }
 {
     let d = arguments::extent(call);
+    let mut zero = -1;
     let mut from = 0;
     while from < d {
         let lines = kernel::panels::smaller(w, d - from);
-        strips::strip(call, a, b, out, from, lines, r);
+        zero = strips::strip(call, a, b, out, from, lines, r);
         from += lines;
     }
+    zero
 }
 
-// What the answer of the check means for the output, and the number to be handed back.
-fn answered(answer: Checked, a: &[f64], b: &[f64], out: &mut [f64], w: usize, r: usize) -> i32
+// What the answer of the check means for the output, and what is to be handed back.
+fn answered(answer: Checked, a: &[f64], b: &[f64], out: &mut [f64], w: usize, r: usize) -> SolveEnd
     requires { ⌜ ((e : ℕ) → answer ≡ Refused e → e ≤ 30) ⌝ }
     requires { ⌜ ((k : CallOf) → answer ≡ Ready k → FitsArrays k (length (now a)) (length (now b)) (length (now out)) × (0 < w) × (w ≤ 64) × (0 < r) × (r ≤ 64)) ⌝ }
-    ensures { λ x. ⌜ (x ≡ Check.number answer) × (now (out .exit) ≡ Check.leaves answer (now (a .entry)) (now (b .entry)) (now (out .entry))) ⌝ }
+    ensures { λ x. ⌜ (x .number ≡ Check.number answer) × (now (out .exit) ≡ Check.leaves answer (now (a .entry)) (now (b .entry)) (now (out .entry)))
+        × (x .zero ≡ Check.reports answer (now (a .entry))) ⌝ }
 {
     match answer {
-        Checked::Refused(number) => number as i32,
-        Checked::Idle => 0,
-        Checked::Ready(call) => {
-            complete(call, a, b, out, w, r);
-            0
-        }
+        Checked::Refused(number) => SolveEnd {
+            number: number as i32,
+            zero: -1,
+        },
+        Checked::Idle => SolveEnd {
+            number: 0,
+            zero: -1,
+        },
+        Checked::Ready(call) => SolveEnd {
+            number: 0,
+            zero: complete(call, a, b, out, w, r),
+        },
     }
 }
 
@@ -87,7 +96,8 @@ pub fn gemm(
         lenc: c.len(),
     };
     let answer = arguments::check(w, r, g);
-    answered(answer, a, b, c, arguments::width(w), arguments::width(r))
+    let end = answered(answer, a, b, c, arguments::width(w), arguments::width(r));
+    end.number
 }
 
 // SYMM: C becomes alpha A B + beta C (side L) or alpha B A + beta C (side R), A symmetric.
@@ -130,7 +140,8 @@ pub fn symm(
         lenc: c.len(),
     };
     let answer = arguments::check(w, r, g);
-    answered(answer, a, b, c, arguments::width(w), arguments::width(r))
+    let end = answered(answer, a, b, c, arguments::width(w), arguments::width(r));
+    end.number
 }
 
 // SYRK: triangle uplo of C, diagonal included, becomes that of alpha op(A) op(A)T + beta C. It has no B.
@@ -172,14 +183,15 @@ pub fn syrk(
         lenc: c.len(),
     };
     let answer = arguments::check(w, r, g);
-    answered(
+    let end = answered(
         answer,
         a,
         &none,
         c,
         arguments::width(w),
         arguments::width(r),
-    )
+    );
+    end.number
 }
 
 // SYR2K: triangle uplo of C, diagonal included, becomes that of alpha op(A) op(B)T + alpha op(B) op(A)T + beta C.
@@ -222,7 +234,8 @@ pub fn syr2k(
         lenc: c.len(),
     };
     let answer = arguments::check(w, r, g);
-    answered(answer, a, b, c, arguments::width(w), arguments::width(r))
+    let end = answered(answer, a, b, c, arguments::width(w), arguments::width(r));
+    end.number
 }
 
 // TRMM: B becomes alpha op(A) B (side L) or alpha B op(A) (side R), A triangular. It has no C.
@@ -264,17 +277,19 @@ pub fn trmm(
         lenc: 0,
     };
     let answer = arguments::check(w, r, g);
-    answered(
+    let end = answered(
         answer,
         a,
         &none,
         b,
         arguments::width(w),
         arguments::width(r),
-    )
+    );
+    end.number
 }
 
-// TRSM: B becomes X with op(A) X = alpha B (side L) or X op(A) = alpha B (side R), A triangular. It has no C.
+// TRSM: B becomes X with op(A) X = alpha B (side L) or X op(A) = alpha B (side R), A triangular. It has no C. It also hands back the lowest
+// diagonal index at which A is zero, or -1.
 pub fn trsm(
     side: i32,
     uplo: i32,
@@ -289,8 +304,8 @@ pub fn trsm(
     ldb: i32,
     w: i32,
     r: i32,
-) -> i32
-    ensures { λ x. ⌜ (x ≡ Direct.trsm side uplo transa diag m n alpha (now (a .entry)) lda (now (b .entry)) ldb w r .number) × (now (b .exit) ≡ Direct.trsm side uplo transa diag m n alpha (now (a .entry)) lda (now (b .entry)) ldb w r .array) ⌝ }
+) -> SolveEnd
+    ensures { λ x. ⌜ (x ≡ Direct.trsm side uplo transa diag m n alpha (now (a .entry)) lda (now (b .entry)) ldb w r .end) × (now (b .exit) ≡ Direct.trsm side uplo transa diag m n alpha (now (a .entry)) lda (now (b .entry)) ldb w r .array) ⌝ }
 {
     let none = [0.0f64; 0];
     let g = Args {

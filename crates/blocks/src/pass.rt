@@ -2,6 +2,7 @@
 ghost use mathlib.Core.Path.{_≡_};
 ghost use Prim.Native.Nat.{_+_, _*_, _≤_, _<_};
 ghost use lib.ListN.{length};
+ghost use lib.Ieee as Ieee;
 ghost use Rattle.arrays.specs.Update.{update, below, region};
 ghost use Rattle.floats.specs.Operations.{_⊗_, _⊘_, 0f};
 
@@ -29,16 +30,17 @@ pub fn scale_column(c: &mut [f64], n: usize, s: f64)
     }
 }
 
-// Each element below n divided by d.
-pub fn divide_column(c: &mut [f64], n: usize, d: f64)
+// Each element below n divided by d. It hands back whether d is zero.
+pub fn divide_column(c: &mut [f64], n: usize, d: f64) -> bool
     requires { ⌜ n ≤ length (now c) ⌝ }
-    ensures { λ _. ⌜ now (c .exit) ≡ update (below n (λ i x. x ⊘ d)) (now (c .entry)) ⌝ }
+    ensures { λ r. ⌜ (now (c .exit) ≡ update (below n (λ i x. x ⊘ d)) (now (c .entry))) × (r ≡ Ieee.eq d 0f) ⌝ }
 {
     let mut i = 0;
     while i < n {
         c[i] = c[i] / d;
         i += 1;
     }
+    d == 0.0
 }
 
 // +0.0 in rows by cols entries.

@@ -1,8 +1,8 @@
--- Demand 3, for two sheets: alike except in strip widths and block sizes, each 0 to 64, they have the same arrays and answers at the finish.
+-- Demand 3, for two sheets: alike except in strip widths and block sizes, each 0 to 64, they have the same arrays and answers at the finish, and report the same.
 -- Assumes nothing.
 use Prim.Native.Nat.{ℕ, _+_, _-_, _*_, _<_}
 use mathlib.Core.Path.{_≡_, refl, sym, ap, ap₂, subst, _∙_}
-use mathlib.Core.Bool.{Bool, true, false, _&&_, _||_}
+use mathlib.Core.Bool.{Bool, true, false, not, _&&_, _||_}
 use mathlib.Core.List.{List, [], _∷_, _++_}
 use mathlib.Core.Option.{Option, none, some}
 use native.Mathlib.Omega.{arith}
@@ -12,21 +12,22 @@ use lib.ListN.{length, take, drop, getD}
 use lib.Ieee.{Float, nan}
 use borrow.Author.Tests.{eqb-true, eq-eqb, ltb-true}
 use Rattle.arrays.specs.Choice.{if_then_else_}
+use Rattle.arrays.specs.Search as Search
 use Rattle.arrays.proofs.Tests.{and-left, and-right, if-true, if-false, by-test}
 use Rattle.definitions.specs.Number.{scalar}
 use Rattle.definitions.specs.Call.{inPlace, extent}
-use Rattle.definitions.specs.Element.{strip}
+use Rattle.definitions.specs.Element.{strip, zeroOf}
 use Rattle.definitions.specs.Check.{nat, negative, places, arrays, firstBad, badWidth, refusal, callOf}
-use Rattle.definitions.specs.Machine.{Act, refuse, iterate}
+use Rattle.definitions.specs.Machine.{Act, refuse, iterate, reported}
 use Rattle.definitions.specs.Sheet.{Sheet, Arrays, A, B, C, records, sound, field, output, inputs, any, alphaOf, betaOf, array, withArray, lengths, part, partLength, badArrays, badOffsets, argsOf, recordRefusal, routineOf, stripDone, accepted, actBy, act}
-use Rattle.definitions.specs.Run.{Machine, begin, after, tooShort, Ran, ranTo, runs, last, sum}
+use Rattle.definitions.specs.Run.{Machine, begin, after, zeroReported, tooShort, Ran, ranTo, runs, last, firstZero, sum}
 use Rattle.definitions.specs.declared.Routine.{Routine}
 use Rattle.definitions.specs.declared.Routine.the-variants.{Gemm, Symm, Syrk, Syr2k, Trmm, Trsm}
 use Rattle.definitions.specs.declared.Args.{Args}
 use Rattle.definitions.specs.declared.Call.{Call}
 use Rattle.definitions.proofs.Answers.{refusal-allowed}
-use Rattle.definitions.proofs.MachineLaws.{whole, answer, same-finish}
-use Rattle.definitions.proofs.Records.{recordCall, whole-record, act-stable, act-positive}
+use Rattle.definitions.proofs.MachineLaws.{whole, answer, had, SameRecords, same-finish, same-report}
+use Rattle.definitions.proofs.Records.{recordCall, whole-record, act-stable, act-steady, act-positive}
 use Rattle.definitions.proofs.Runs.{list-of-runs}
 
 -- Two sheets that are alike except in strip widths and block sizes. (What stands before the first record is not read, so it may differ too.)
@@ -69,6 +70,14 @@ refused-answers e = refl
 accepted-answers : (t : Sheet) (p : ℕ) (f : Routine) (c : Call) → answer (accepted t p f c) ≡ 0
 unfolding answer accepted
 accepted-answers t p f c = refl
+
+refused-has : (e : ℕ) (l : Arrays) → had (refuse e) l ≡ false
+unfolding had
+refused-has e l = refl
+
+accepted-has : (t : Sheet) (p : ℕ) (f : Routine) (c : Call) (l : Arrays) → had (accepted t p f c) l ≡ not (negative (zeroOf f c (part t p A l)))
+unfolding had accepted
+accepted-has t p f c l = refl
 
 module _ (t u : Sheet) (k : Alike t u) (p : ℕ) (h : p < records t) where
   same : (q : ℕ) → q < 18 → field t p q ≡ field u p q
@@ -148,8 +157,9 @@ module _ (t u : Sheet) (k : Alike t u) (p : ℕ) (h : p < records t) where
       λ i. withArray l (nat (n i)) (take (nat (o i)) (array l (nat (n i))) ++ strip c (a i) (b i) from to (x i))
 
   same-act : (l : Arrays) (o : Option Routine) → (whole (actBy t p (lengths l) o) l ≡ whole (actBy u p (lengths l) o) l) × (answer (actBy t p (lengths l) o) ≡ answer (actBy u p (lengths l) o))
+      × (had (actBy t p (lengths l) o) l ≡ had (actBy u p (lengths l) o) l)
   unfolding actBy
-  same-act l none = (refl, refl)
+  same-act l none = (refl, refl, refl)
   same-act l (some f) =
       by-test (eqb (recordRefusal t p (lengths l) (some f)) 0)
       (λ e.
@@ -162,37 +172,47 @@ module _ (t u : Sheet) (k : Alike t u) (p : ℕ) (h : p < records t) where
             ∙ ap (λ (g : Args). stripDone u p f (callOf g) 0 (extent (callOf g)) l) (same-args f (lengths l))
             ∙ sym (ap (λ (a : Act Arrays). whole a l) yu ∙ whole-record u p l f eu),
         ap answer yt ∙ accepted-answers t p f _ ∙ sym (ap answer yu ∙ accepted-answers u p f _),
+        ap (λ (a : Act Arrays). had a l) yt ∙ accepted-has t p f _ l
+            ∙ ap₂ (λ (g : Args) (a : List Float). not (negative (zeroOf f (callOf g) a))) (same-args f (lengths l)) (same-part A (omega arith) l)
+            ∙ sym (ap (λ (a : Act Arrays). had a l) yu ∙ accepted-has u p f _ l),
       ))
       (λ e.
       let nt = if-false _ (accepted t p f (recordCall t p (lengths l) f)) _ e in
       let nu = if-false _ (accepted u p f (recordCall u p (lengths l) f)) _ (sym (ap (λ (n : ℕ). eqb n 0) same-number) ∙ e) in (
         ap (λ (a : Act Arrays). whole a l) nt ∙ refused-keeps _ l ∙ sym (ap (λ (a : Act Arrays). whole a l) nu ∙ refused-keeps _ l),
         ap answer nt ∙ refused-answers _ ∙ same-number ∙ sym (ap answer nu ∙ refused-answers _),
+        ap (λ (a : Act Arrays). had a l) nt ∙ refused-has _ l ∙ sym (ap (λ (a : Act Arrays). had a l) nu ∙ refused-has _ l),
       ))
     where
       same-number : recordRefusal t p (lengths l) (some f) ≡ recordRefusal u p (lengths l) (some f)
       same-number = same-refusal (lengths l) (some f)
 
-same-records : (t u : Sheet) → Alike t u → (p : ℕ) → p < records t → (l : Arrays)
-    → (whole (act t p l) l ≡ whole (act u p l) l) × (answer (act t p l) ≡ answer (act u p l))
+same-records : (t u : Sheet) → Alike t u → SameRecords (records t) (act t) (act u)
 unfolding act
 same-records t u k p h l =
     let e : routineOf (field t p 0) ≡ routineOf (field u p 0) = ap routineOf (k .words p 0 h (omega arith)) in
-    let s = same-act t u k p h l (routineOf (field t p 0)) in
-    (s .0 ∙ ap (λ (o : Option Routine). whole (actBy u p (lengths l) o) l) e, s .1 ∙ ap (λ (o : Option Routine). answer (actBy u p (lengths l) o)) e)
+    let s = same-act t u k p h l (routineOf (field t p 0)) in (
+      s .0 ∙ ap (λ (o : Option Routine). whole (actBy u p (lengths l) o) l) e,
+      s .1 ∙ ap (λ (o : Option Routine). answer (actBy u p (lengths l) o)) e,
+      s .2 ∙ ap (λ (o : Option Routine). had (actBy u p (lengths l) o) l) e,
+    )
 
--- The plain machines of two alike sheets, begun on the same arrays and answers at (0, 0), have the same arrays and answers at the finish.
+-- The plain machines of two alike sheets, begun on the same arrays and answers at (0, 0), have the same arrays and answers at the finish, and the same report.
 pub alike-machines : (t u : Sheet) → Alike t u → (l : Arrays) (answers : List ℤ) (n n′ : ℕ)
     → after t n (begin l answers 0 0) .p ≡ records t → after u n′ (begin l answers 0 0) .p ≡ records u
     → (after t n (begin l answers 0 0) .arrays ≡ after u n′ (begin l answers 0 0) .arrays) × (after t n (begin l answers 0 0) .answers ≡ after u n′ (begin l answers 0 0) .answers)
-unfolding after begin
+    × (zeroReported t n (begin l answers 0 0) ≡ zeroReported u n′ (begin l answers 0 0))
+unfolding after begin zeroReported
 alike-machines t u k l answers n n′ h h′ =
     let st = begin l answers 0 0 in
+    let to = subst (λ (m : ℕ). iterate m (act u) n′ st .p ≡ m) (sym (k .counts)) h′ in
     let e : iterate (records t) (act t) n st ≡ iterate (records u) (act u) n′ st =
-    same-finish (records t) (act t) (act u) (act-stable t) (act-stable u) (act-positive t) (act-positive u) (same-records t u k) l answers n n′ h
-    (subst (λ (m : ℕ). iterate m (act u) n′ st .p ≡ m) (sym (k .counts)) h′)
+    same-finish (records t) (act t) (act u) (act-stable t) (act-stable u) (act-steady t) (act-steady u) (act-positive t) (act-positive u) (same-records t u k) l answers n n′ h to
     ∙ ap (λ (m : ℕ). iterate m (act u) n′ st) (k .counts) in
-    (ap (λ (s : Machine). s .arrays) e, ap (λ (s : Machine). s .answers) e)
+    let z =
+    same-report (records t) (act t) (act u) (act-stable t) (act-stable u) (act-steady t) (act-steady u) (act-positive t) (act-positive u) (same-records t u k) l answers n n′ h to
+    ∙ ap (λ (m : ℕ). reported m (act u) n′ st) (k .counts) in
+    (ap (λ (s : Machine). s .arrays) e, ap (λ (s : Machine). s .answers) e, z)
 
 same-long : (t u : Sheet) → Alike t u → (answers : List ℤ) → tooShort u answers ≡ tooShort t answers
 unfolding tooShort
@@ -201,14 +221,15 @@ same-long t u k answers =
 
 -- The same for lists of runs, whatever the budgets of either, that finish: their cursors are at the count.
 pub alike-runs : (t u : Sheet) → sound t ≡ true → sound u ≡ true → Alike t u → (l : Arrays) (answers : List ℤ) → tooShort t answers ≡ false → (bs cs : List ℕ)
-    → let r : Ran = ranTo (begin l answers 0 0) 0 in
+    → let r : Ran = ranTo (begin l answers 0 0) 0 Search.none in
     last r (runs t bs r) .end .p ≡ pos (records t) → last r (runs u cs r) .end .p ≡ pos (records u)
     → (last r (runs t bs r) .arrays ≡ last r (runs u cs r) .arrays) × (last r (runs t bs r) .answers ≡ last r (runs u cs r) .answers)
+    × (firstZero (runs t bs r) ≡ firstZero (runs u cs r))
 alike-runs t u st su k l answers long bs cs h h′ =
     let x = list-of-runs t st bs l answers long in
     let y = list-of-runs u su cs l answers (same-long t u k answers ∙ long) in
     let m = alike-machines t u k l answers (sum bs) (sum cs) (pos-is (sym (x .cursor-p) ∙ h)) (pos-is (sym (y .cursor-p) ∙ h′)) in
-    (x .arrays ∙ m .0 ∙ sym (y .arrays), x .answers ∙ m .1 ∙ sym (y .answers))
+    (x .arrays ∙ m .0 ∙ sym (y .arrays), x .answers ∙ m .1 ∙ sym (y .answers), x .first-zero ∙ m .2 ∙ sym (y .first-zero))
   where
     pos-is : {a b : ℕ} → pos a ≡ pos b → a ≡ b
     pos-is e = cc

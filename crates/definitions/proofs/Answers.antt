@@ -1,5 +1,5 @@
--- What the check's answer means is what the elements' values say: an idle call changes nothing, and a direct call gives 0 and the values of its call,
--- or its number and nothing.
+-- What the check's answer means is what the elements' values say: an idle call changes nothing and reports nothing, and a direct call gives 0 and the values and the
+-- report of its call, or its number and nothing.
 -- Assumes nothing.
 use Prim.Native.Nat.{ℕ}
 use mathlib.Core.Path.{_≡_, refl, sym, ap, _∙_}
@@ -10,14 +10,15 @@ use lib.IntN.{ℤ, pos}
 use lib.Ieee.{Float}
 use borrow.Author.Tests.{eqb-true, not-true}
 use Rattle.arrays.specs.Choice.{if_then_else_}
+use Rattle.arrays.specs.Search.{none}
 use Rattle.arrays.proofs.Tests.{and-left, and-right, or-both, if-true, if-false, by-test}
 use Rattle.arrays.proofs.FoldLaws.{fold-none}
 use Rattle.arrays.proofs.EntryLaws.{entries-keep, only-keep}
 use Rattle.definitions.specs.Number.{isZero, isOne, factor, start}
 use Rattle.definitions.specs.Call.{hasK, inPlace, empty, startOnly, ldOutput, extent, writes}
-use Rattle.definitions.specs.Element.{Product, accumulated, allTerms, gemm, symm, syrk, syr2k, value, strip, result}
-use Rattle.definitions.specs.Check.{places, arrays, badWidth, firstBad, refusal, callOf, idle, checked, number, leaves}
-use Rattle.definitions.specs.Direct.{done}
+use Rattle.definitions.specs.Element.{Product, accumulated, allTerms, gemm, symm, syrk, syr2k, zeroOnDiagonal, value, zeroOf, strip, result}
+use Rattle.definitions.specs.Check.{places, arrays, badWidth, firstBad, refusal, callOf, idle, checked, number, leaves, reports}
+use Rattle.definitions.specs.Direct.{done, solved}
 use Rattle.definitions.specs.declared.Routine.{Routine}
 use Rattle.definitions.specs.declared.Routine.the-variants.{Gemm, Symm, Syrk, Syr2k, Trmm, Trsm}
 use Rattle.definitions.specs.declared.Scalar.{Scalar}
@@ -81,6 +82,23 @@ idle-keeps c a b from to out h =
         (value-starts c a _ i j x (c .routine) p (and-left (isZero (c .alpha) || (hasK (c .routine) && eqb (c .k) 0)) _ r)
         ∙ start-one (c .beta) x (and-right (isZero (c .alpha) || (hasK (c .routine) && eqb (c .k) 0)) _ r)))
 
+-- and it reports nothing
+idle-solve : (c : Call) (a : List Float) (f : Routine) → c .routine ≡ f → idle c ≡ true → zeroOf f c a ≡ none
+unfolding zeroOf zeroOnDiagonal idle inPlace
+idle-solve c a Gemm e h = refl
+idle-solve c a Symm e h = refl
+idle-solve c a Syrk e h = refl
+idle-solve c a Syr2k e h = refl
+idle-solve c a Trmm e h = refl
+idle-solve c a Trsm e h =
+    by-test (empty c)
+    (λ m. rw m)
+    (λ m.
+    absurd (true≢false (sym h ∙ or-both (empty c) _ m (ap (λ (f : Routine). not (inPlace f) && (startOnly c && isOne (c .beta))) e))))
+
+pub idle-reports : (c : Call) (a : List Float) → idle c ≡ true → zeroOf (c .routine) c a ≡ none
+idle-reports c a h = idle-solve c a (c .routine) refl h
+
 -- ---- a direct call
 
 -- An accepted call gives 0 and leaves the values of its call; a refused one gives its number and writes nothing.
@@ -92,6 +110,15 @@ direct-is w r g a b out =
     (λ e. by-test (idle (callOf g))
     (λ i. let k = idle-keeps (callOf g) a b 0 (extent (callOf g)) out i in rw (e, i) (λ t. record { number = pos (sym (eqb-true (refusal w r g) 0 e) t); array = sym k t }))
     (λ i. rw (e, i) (λ t. record { number = pos (sym (eqb-true (refusal w r g) 0 e) t); array = result (callOf g) a b out })))
+    (λ e. rw e)
+
+-- and an accepted one reports what its call does, a refused one −1
+pub direct-reports : (w r : ℤ) (g : Args) (a : List Float)
+    → reports (checked w r g) a ≡ (if eqb (refusal w r g) 0 then zeroOf (callOf g .routine) (callOf g) a else none)
+unfolding checked reports
+direct-reports w r g a =
+    by-test (eqb (refusal w r g) 0)
+    (λ e. by-test (idle (callOf g)) (λ i. rw (e, i) (sym (idle-reports (callOf g) a i))) (λ i. rw (e, i)))
     (λ e. rw e)
 
 -- the number of a call whose strip width and block size are allowed
@@ -107,3 +134,14 @@ alike-calls w r w′ r′ g a b out hw hr hw′ hr′ =
     ∙ ap (λ (e : ℕ). record { number = pos e; array = if eqb e 0 then result (callOf g) a b out else out })
     (refusal-allowed w r g hw hr ∙ sym (refusal-allowed w′ r′ g hw′ hr′))
     ∙ sym (direct-is w′ r′ g a b out)
+
+-- Two such solves report the same, too.
+pub alike-solves : (w r w′ r′ : ℤ) (g : Args) (a b out : List Float) → badWidth w ≡ false → badWidth r ≡ false → badWidth w′ ≡ false → badWidth r′ ≡ false
+    → solved w r g a b out ≡ solved w′ r′ g a b out
+unfolding solved
+alike-solves w r w′ r′ g a b out hw hr hw′ hr′ =
+    let d = alike-calls w r w′ r′ g a b out hw hr hw′ hr′ in
+    let z = direct-reports w r g a
+    ∙ ap (λ (e : ℕ). if eqb e 0 then zeroOf (callOf g .routine) (callOf g) a else none) (refusal-allowed w r g hw hr ∙ sym (refusal-allowed w′ r′ g hw′ hr′))
+    ∙ sym (direct-reports w′ r′ g a) in
+    λ i. record { end = record { number = d i .number; zero = z i }; array = d i .array }

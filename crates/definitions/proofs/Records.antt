@@ -3,12 +3,13 @@
 -- Assumes nothing.
 use Prim.Native.Nat.{ℕ, zero, suc, _+_, _*_, _≤_, _<_}
 use mathlib.Core.Path.{_≡_, refl, sym, ap, ap₂, subst, fun-ext, _∙_}
-use mathlib.Core.Bool.{Bool, true, false, _||_, true≢false}
+use mathlib.Core.Bool.{Bool, true, false, not, _||_, true≢false}
 use mathlib.Core.List.{List, [], _∷_, _++_}
 use mathlib.Core.Option.{Option, none, some}
 use native.Mathlib.Nat.{zero-mul, suc-mul}
 use native.Mathlib.Omega.{arith}
 use lib.Dec.{ltb, eqb}
+use lib.IntN.{ℤ}
 use lib.ListN.{length, take, drop, length-append, take-append-drop}
 use lib.Seq.{length-take-le, take-at, drop-at}
 use lib.Ieee.{Float}
@@ -18,7 +19,7 @@ use Rattle.arrays.specs.Fold.{fold}
 use Rattle.arrays.proofs.Tests.{or-left, or-right, if-true, if-false, by-test}
 use Rattle.arrays.proofs.UpdateLaws.{length-update}
 use Rattle.definitions.specs.Call.{inPlace, ldOutput, extent, strips, writes}
-use Rattle.definitions.specs.Element.{value, arrayB, strip, result}
+use Rattle.definitions.specs.Element.{value, zeroOf, arrayB, strip, result}
 use Rattle.definitions.specs.Check.{nat, negative, width, refusal, callOf}
 use Rattle.definitions.specs.Machine.{refuse, work}
 use Rattle.definitions.specs.Sheet.{Sheet, Arrays, A, B, field, output, inputs, any, array, withArray, lengths, part, badArrays, badOffsets, argsOf, recordRefusal, routineOf, widthOf, stripDone, accepted, actBy, act}
@@ -27,7 +28,7 @@ use Rattle.definitions.specs.declared.Routine.the-variants.{Gemm, Symm, 
 use Rattle.definitions.specs.declared.Call.{Call}
 use Rattle.definitions.proofs.Strips.{strip-join, strip-none, strips-cover, strips-positive}
 use Rattle.definitions.proofs.CheckLaws.{strip-width, room-in-place}
-use Rattle.definitions.proofs.MachineLaws.{Stable, Positive, whole}
+use Rattle.definitions.proofs.MachineLaws.{Stable, Positive, Steady, whole}
 
 -- ---- the three arrays
 
@@ -279,41 +280,57 @@ whole-record t p l f h =
 
 -- ---- what the machine's laws ask of the records
 
-work-is : {M : Type 0} (n n′ : ℕ) (f f′ : ℕ → M → M) → work n f ≡ work n′ f′ → (n ≡ n′) × (f ≡ f′)
-work-is n n′ f f′ e = (cc, cc)
+work-is : {M : Type 0} (n n′ : ℕ) (f f′ : ℕ → M → M) (z z′ : M → Bool) → work n f z ≡ work n′ f′ z′ → (n ≡ n′) × (f ≡ f′) × (z ≡ z′)
+work-is n n′ f f′ z z′ e = (cc, cc, cc)
 
-refuse-works : {M : Type 0} (e n : ℕ) (f : ℕ → M → M) → refuse e ≡ work n f → ⊥
-refuse-works e n f h = let z : _≡_ {A = ℕ} 0 1 = cc in omega arith
+refuse-works : {M : Type 0} (e n : ℕ) (f : ℕ → M → M) (z : M → Bool) → refuse e ≡ work n f z → ⊥
+refuse-works e n f z h = let b : _≡_ {A = ℕ} 0 1 = cc in omega arith
 
 -- by whether a record is accepted
-module _ (t : Sheet) (p : ℕ) (size : ℕ → ℕ) (n : ℕ) (g : ℕ → Arrays → Arrays) where
+module _ (t : Sheet) (p : ℕ) (size : ℕ → ℕ) (n : ℕ) (g : ℕ → Arrays → Arrays) (z : Arrays → Bool) where
   pub record Works (f : Routine) : Type 0 where
     pub accepts : recordRefusal t p size (some f) ≡ 0
     pub strips-are : strips (widthOf t p) (recordCall t p size f) ≡ n
     pub update-is : (λ s l. stripDone t p f (recordCall t p size f) (s * widthOf t p) (suc s * widthOf t p) l) ≡ g
+    pub singular-is : (λ l. not (negative (zeroOf f (recordCall t p size f) (part t p A l)))) ≡ z
 
-  yes : (f : Routine) → eqb (recordRefusal t p size (some f)) 0 ≡ true → actBy t p size (some f) ≡ work n g → Works f
+  yes : (f : Routine) → eqb (recordRefusal t p size (some f)) 0 ≡ true → actBy t p size (some f) ≡ work n g z → Works f
   unfolding actBy accepted
   yes f e h =
-      let q = work-is _ _ _ _ (sym (if-true _ _ _ e) ∙ h) in
-      record { accepts = eqb-true _ 0 e; strips-are = q .0; update-is = q .1 }
+      let q = work-is _ _ _ _ _ _ (sym (if-true _ _ _ e) ∙ h) in
+      record { accepts = eqb-true _ 0 e; strips-are = q .0; update-is = q .1; singular-is = q .2 }
 
-  works : (o : Option Routine) → actBy t p size o ≡ work n g → (f : Routine) × (o ≡ some f) × Works f
+  works : (o : Option Routine) → actBy t p size o ≡ work n g z → (f : Routine) × (o ≡ some f) × Works f
   unfolding actBy accepted
-  works none h = absurd (refuse-works 31 n g h)
-  works (some f) h = (f, refl, by-test (eqb (recordRefusal t p size (some f)) 0) (λ e. yes f e h) (λ e. absurd (refuse-works _ n g (sym (if-false _ _ _ e) ∙ h))))
+  works none h = absurd (refuse-works 31 n g z h)
+  works (some f) h = (f, refl, by-test (eqb (recordRefusal t p size (some f)) 0) (λ e. yes f e h) (λ e. absurd (refuse-works _ n g z (sym (if-false _ _ _ e) ∙ h))))
 
 pub act-stable : (t : Sheet) → Stable (act t)
 unfolding act
-act-stable t p l n g s h =
-    let w = works t p (lengths l) n g (routineOf (field t p 0)) h in
+act-stable t p l n g z s h =
+    let w = works t p (lengths l) n g z (routineOf (field t p 0)) h in
     ap (λ (size : ℕ → ℕ). actBy t p size (routineOf (field t p 0)))
     (ap (λ (u : ℕ → Arrays → Arrays). lengths (u s l)) (sym (w .2 .update-is)) ∙ lengths-strip t p (w .0) _ _ _ l)
     ∙ h
 
 pub act-positive : (t : Sheet) → Positive (act t)
 unfolding act widthOf
-act-positive t p l n g h =
-    let w = works t p (lengths l) n g (routineOf (field t p 0)) h in
+act-positive t p l n g z h =
+    let w = works t p (lengths l) n g z (routineOf (field t p 0)) h in
     let ok = when-accepted t p (lengths l) (w .0) (w .2 .accepts) in
     subst (λ (k : ℕ). 0 < k) (w .2 .strips-are) (strips-positive _ _ (strip-width _ _ _ (ok .direct-ok) .0))
+
+-- Every strip of a record reports what its call reports: A is in another array than the one that the strips write.
+pub strip-reports : (t : Sheet) (p : ℕ) (f : Routine) (c : Call) (l : Arrays) (from to : ℕ) → badArrays t p f ≡ false
+    → zeroOf f c (part t p A (stripDone t p f c from to l)) ≡ zeroOf f c (part t p A l)
+unfolding stripDone
+strip-reports t p f c l from to ok = ap (zeroOf f c) (input-kept t p f ok A (reads-A f) l _)
+
+pub act-steady : (t : Sheet) → Steady (act t)
+unfolding act
+act-steady t p l n g z s h =
+    let w = works t p (lengths l) n g z (routineOf (field t p 0)) h in
+    let c = recordCall t p (lengths l) (w .0) in
+    let ok = when-accepted t p (lengths l) (w .0) (w .2 .accepts) in
+    let same = strip-reports t p (w .0) c l (s * widthOf t p) (suc s * widthOf t p) (ok .arrays-ok) in
+    (λ i. sym (w .2 .singular-is) i (sym (w .2 .update-is) i s l)) ∙ ap (λ (x : ℤ). not (negative x)) same ∙ (λ i. w .2 .singular-is i l)

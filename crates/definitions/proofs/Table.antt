@@ -1,4 +1,4 @@
--- Document 01's "Table to be proved", the examples of its "Numbers handed back", and examples of document 02's K2 and K5, by computation over the definitions.
+-- Document 01's "Table to be proved", the examples of its "Numbers handed back", and examples of document 02's K2, K5 and K11, by computation over the definitions.
 -- Assumes nothing.
 use Prim.Native.Nat.{ℕ, _+_, _-_}
 use mathlib.Core.Path.{_≡_, refl}
@@ -10,6 +10,7 @@ use lib.ListN.{replicate}
 use lib.Ieee.{Float, nan, inf, binary64, add, mul, div, neg, eq, ofInt}
 use Rattle.arrays.specs.Update.{updateFrom, entries, only}
 use Rattle.arrays.specs.Fold.{fold, among, solved}
+use Rattle.arrays.specs.Search.{lowest, none, answer, earlier}
 use Rattle.floats.specs.Operations.{_⊘_, 0f, 1f}
 use Rattle.definitions.specs.Number.{scalar, factor, start}
 use Rattle.definitions.specs.Storage.{stored, transposed, op, inside, opTriangle, mirrored, withDiagonal, needed}
@@ -18,7 +19,7 @@ use Rattle.definitions.specs.Element as Element
 use Rattle.definitions.specs.Check as Check
 use Rattle.definitions.specs.Check.{'N', 'U', 'L'}
 use Rattle.definitions.specs.Direct as Direct
-use Rattle.definitions.specs.Direct.{Done, gemm, symm, syrk, syr2k, trmm, trsm}
+use Rattle.definitions.specs.Direct.{Done, Solved, gemm, symm, syrk, syr2k, trmm, trsm}
 use Rattle.definitions.specs.Machine as Machine
 use Rattle.definitions.specs.Sheet as Sheet
 use Rattle.definitions.specs.Sheet.{Arrays}
@@ -44,6 +45,18 @@ gives-is : (d : Done) (v : List Float) → T (sameInteger (d .number) (pos 0)) �
 unfolding gives
 gives-is d v t u = let p = same-integer (d .number) (pos 0) t in let q = same-floats (d .array) v u in λ i. record { number = p i; array = q i }
 
+-- the same for a solve without a zero on the diagonal
+solves : List Float → Solved
+solves v = record { end = record { number = pos 0; zero = none }; array = v }
+
+solves-is : (d : Solved) (v : List Float) → T (sameInteger (d .end .number) (pos 0)) → T (sameInteger (d .end .zero) none) → T (sameFloats (d .array) v) → d ≡ solves v
+unfolding solves
+solves-is d v t z u =
+    let p = same-integer (d .end .number) (pos 0) t in
+    let q = same-integer (d .end .zero) none z in
+    let r = same-floats (d .array) v u in
+    λ i. record { end = record { number = p i; zero = q i }; array = r i }
+
 -- GEMM, neither transposed
 gemmNN : ℕ → ℕ → ℕ → Float → List Float → List Float → Float → List Float → Done
 gemmNN m n k alpha a b beta c =
@@ -61,7 +74,7 @@ lent = record { x = vec (2 ∷ []); y = vec (replicate 65 3); z = vec (replicate
 
 -- before the first run, at the cursor (p, s)
 before : ℤ → ℤ → Ran
-before p s = ran 0 p s 0 lent (pos 7 ∷ [])
+before p s = ran 0 p s 0 none lent (pos 7 ∷ [])
 
 cursor : Ran → ℤ × ℤ
 cursor r = (r .end .p, r .end .s)
@@ -77,6 +90,21 @@ recordOf routine arrayA offset arrayC = record {
   scalars = 1f ∷ 0f ∷ [];
 }
 
+-- What a solve of order 2, side L and not transposed, reports: uplo, diag, columns, alpha and A.
+zeroIn : ℕ → ℕ → ℕ → Float → List Float → ℤ
+zeroIn uplo diag n alpha a =
+    trsm (pos 'L') (pos uplo) (pos 'N') (pos diag) (pos 2) (pos n) alpha a (pos 2) (vec (1 ∷ 1 ∷ [])) (pos 2) (pos 64) (pos 64) .end .zero
+
+-- A sheet of two solves of order 1 in strips of one column, the first of one column with B of leading dimension ldb, the second of two. A is X, which is zero.
+solveWords : ℕ → ℕ → List ℕ
+solveWords n ldb = 6 ∷ 'L' ∷ 'L' ∷ 'N' ∷ 0 ∷ 'N' ∷ 1 ∷ n ∷ 0 ∷ 0 ∷ 0 ∷ 1 ∷ 1 ∷ 0 ∷ ldb ∷ 0 ∷ 0 ∷ 0 ∷ 1 ∷ 64 ∷ []
+
+zeroesOf : ℕ → List ℕ → List ℤ
+zeroesOf ldb budgets =
+    let t : Sheet.Sheet = record { words = map pos (solveWords 1 ldb ++ (solveWords 2 1 ++ (0 ∷ 2 ∷ []))); scalars = 1f ∷ 0f ∷ 1f ∷ 0f ∷ [] } in
+    let l : Arrays = record { x = vec (0 ∷ []); y = vec (1 ∷ 1 ∷ []); z = [] } in
+    map (λ (r : Ran). r .end .zero) (runs t budgets (ran 0 (pos 0) (pos 0) 0 none l (pos 7 ∷ pos 7 ∷ [])))
+
 -- the answers that one run leaves, and the number that it hands back
 answersOf : Sheet.Sheet → List ℤ
 answersOf t = last (before (pos 0) (pos 0)) (runs t (1 ∷ []) (before (pos 0) (pos 0))) .answers
@@ -86,19 +114,19 @@ numberOf t p s = Run.numbers (runs t (1 ∷ []) (before p s))
 
 -- Everything that the table and the examples compute with.
 abbrev opened : ℕ
-unfolding num vec P gives gemmNN sheet lent before cursor direct recordOf answersOf numberOf gemm symm syrk syr2k trmm trsm Direct.done
-    Check.checked Check.number Check.leaves Check.idle Check.refusal Check.firstBad Check.places Check.arrays Check.bad Check.badWith Check.badWidth Check.width
+unfolding num vec P gives solves gemmNN sheet lent before cursor direct recordOf zeroIn solveWords zeroesOf answersOf numberOf gemm symm syrk syr2k trmm trsm
+    Direct.done Direct.solved lowest answer earlier Check.checked Check.number Check.leaves Check.reports Check.idle Check.refusal Check.firstBad Check.places Check.arrays Check.bad Check.badWith Check.badWidth Check.width
     Check.untested Check.short Check.badLd Check.callOf Check.is Check.sideOf Check.uploOf Check.transOf Check.diagOf
     Element.result Element.strip Element.arrayB Element.value Element.gemm Element.symm Element.syrk Element.syr2k Element.trmm Element.trsm Element.solveNext
-    Element.divided Element.turn Element.solvesUp Element.triangle Element.triangular Element.accumulated Element.allTerms Element.productTerm Element.term
+    Element.byZero Element.zeroOnDiagonal Element.zeroOf Element.divided Element.turn Element.solvesUp Element.triangle Element.triangular Element.accumulated Element.allTerms Element.productTerm Element.term
     Call.bySide Call.hasM Call.hasK Call.inPlace Call.empty Call.startOnly Call.storedAs Call.order Call.shapeA Call.shapeB Call.shapeC Call.ldOutput
     Call.inTriangle Call.inOutput Call.cutsRows Call.extent Call.strips Call.cut Call.writes
     stored transposed op inside opTriangle mirrored withDiagonal needed updateFrom entries only fold among solved scalar factor start
-    Machine.stripsOf Machine.closed Machine.perform Machine.finished Machine.step Machine.iterate Machine.made
+    Machine.stripsOf Machine.closed Machine.perform Machine.finished Machine.step Machine.iterate Machine.made Machine.counts Machine.reported
     Sheet.act Sheet.actBy Sheet.accepted Sheet.stripDone Sheet.widthOf Sheet.recordRefusal Sheet.argsOf Sheet.badOffsets Sheet.badArrays Sheet.partLength Sheet.part
     Sheet.lengths Sheet.withArray Sheet.array Sheet.betaOf Sheet.alphaOf Sheet.any Sheet.inputs Sheet.output Sheet.routineOf Sheet.field Sheet.records Sheet.sound
     Sheet.count Sheet.index Sheet.word
-    Run.begin Run.after Run.stepsMade Run.tooShort Run.badCursor Run.runRefusal Run.run runs last Run.numbers
+    Run.begin Run.after Run.stepsMade Run.zeroReported Run.tooShort Run.badCursor Run.runRefusal Run.run runs last Run.numbers
     ofInt add mul div neg eq
 opened = 0
 
@@ -130,11 +158,11 @@ table :
     ≡ gives (vec (11 ∷ 4 ∷ [])))
     -- k
     × (trsm (pos 'L') (pos 'L') (pos 'N') (pos 'N') (pos 2) (pos 1) (num 2) (vec (2 ∷ 1 ∷ 9 ∷ 4 ∷ [])) (pos 2) (vec (3 ∷ 7 ∷ [])) (pos 2) (pos 64) (pos 64)
-    ≡ gives (num 3 ∷ (num 11 ⊘ num 4) ∷ []))
+    ≡ solves (num 3 ∷ (num 11 ⊘ num 4) ∷ []))
     -- l
     × (trsm (pos 'L') (pos 'U') (pos 'N') (pos 'U') (pos 3) (pos 1) 1f (vec (1 ∷ 0 ∷ 0 ∷ 1 ∷ 1 ∷ 0 ∷ 1 ∷ 0 ∷ 1 ∷ [])) (pos 3)
     (num 1 ∷ num P ∷ neg (num P) ∷ []) (pos 3) (pos 64) (pos 64)
-    ≡ gives (num 0 ∷ num P ∷ neg (num P) ∷ []))
+    ≡ solves (num 0 ∷ num P ∷ neg (num P) ∷ []))
     -- m
     × (map cursor (runs (sheet 3 1) (2 ∷ 1 ∷ []) (before (pos 0) (pos 0))) ≡ (pos 0, pos 2) ∷ (pos 1, pos 0) ∷ [])
 unfolding opened
@@ -149,8 +177,8 @@ table = (
   gives-is _ _ tt tt,
   gives-is _ _ tt tt,
   gives-is _ _ tt tt,
-  gives-is _ _ tt tt,
-  gives-is _ _ tt tt,
+  solves-is _ _ tt tt tt,
+  solves-is _ _ tt tt tt,
   refl,
 )
 
@@ -189,3 +217,22 @@ numbers :
     × (numberOf (sheet 65 0) (pos 0) (pos 1) ≡ pos 0 ∷ [])
 unfolding opened
 numbers = (refl, refl, refl, refl, refl, refl, refl, refl, refl, refl, refl, refl, refl, refl, refl, refl, refl, refl, refl)
+
+-- Document 02, K11: "the lowest diagonal index at which A is zero (−0.0 counts), or −1. With a unit diagonal, α zero, m or n zero, or a refusal, it reports −1."
+zeroes :
+    -- an upper A is solved from the last index down, a lower one from the first up
+    (zeroIn 'U' 'N' 1 1f (vec (0 ∷ 9 ∷ 2 ∷ 0 ∷ [])) ≡ pos 0)
+    × (zeroIn 'L' 'N' 1 1f (vec (0 ∷ 2 ∷ 9 ∷ 0 ∷ [])) ≡ pos 0)
+    × (zeroIn 'L' 'N' 1 1f (num 1 ∷ num 2 ∷ num 9 ∷ neg (num 0) ∷ []) ≡ pos 1)
+    × (zeroIn 'L' 'N' 1 1f (vec (1 ∷ 0 ∷ 0 ∷ 1 ∷ [])) ≡ none)
+    × (zeroIn 'L' 'U' 1 1f (vec (0 ∷ 2 ∷ 9 ∷ 0 ∷ [])) ≡ none)
+    × (zeroIn 'L' 'N' 1 0f (vec (0 ∷ 2 ∷ 9 ∷ 0 ∷ [])) ≡ none)
+    × (zeroIn 'L' 'N' 0 1f (vec (0 ∷ 2 ∷ 9 ∷ 0 ∷ [])) ≡ none)
+    × (zeroIn 88 'N' 1 1f (vec (0 ∷ 2 ∷ 9 ∷ 0 ∷ [])) ≡ none)
+    -- "a run reports the first record that had one, or −1, across the steps it made, a solve counting at its last strip"
+    × (zeroesOf 1 (3 ∷ []) ≡ pos 0 ∷ [])
+    × (zeroesOf 1 (1 ∷ 1 ∷ 1 ∷ []) ≡ pos 0 ∷ none ∷ pos 1 ∷ [])
+    -- the first record is refused
+    × (zeroesOf 0 (2 ∷ 1 ∷ []) ≡ none ∷ pos 1 ∷ [])
+unfolding opened
+zeroes = (refl, refl, refl, refl, refl, refl, refl, refl, refl, refl, refl)

@@ -6,10 +6,11 @@ use lib.Dec.{ltb, eqb}
 use lib.IntN.{ℤ, pos, negsuc}
 use lib.Ieee.{Float}
 use Rattle.arrays.specs.Choice.{if_then_else_}
+use Rattle.arrays.specs.Search.{none}
 use Rattle.definitions.specs.Number.{isOne}
 use Rattle.definitions.specs.Storage.{needed}
 use Rattle.definitions.specs.Call.{hasM, inPlace, empty, startOnly, shapeA, shapeB, shapeC}
-use Rattle.definitions.specs.Element.{result}
+use Rattle.definitions.specs.Element.{zeroOf, result}
 use Rattle.definitions.specs.declared.Routine.{Routine}
 use Rattle.definitions.specs.declared.Routine.the-variants.{Gemm, Symm, Syrk, Syr2k, Trmm, Trsm}
 use Rattle.definitions.specs.declared.Side.{Side}
@@ -201,3 +202,9 @@ unfoldable pub leaves : Checked → List Float → List Float → List Float →
 leaves (Refused e) a b out = out
 leaves Idle a b out = out
 leaves (Ready c) a b out = result c a b out
+
+-- Document 02, K11: "or a refusal, it reports −1"
+unfoldable pub reports : Checked → List Float → ℤ
+reports (Refused e) a = none
+reports Idle a = none
+reports (Ready c) a = zeroOf (c .routine) c a

@@ -5,11 +5,12 @@ use lib.IntN.{ℤ, pos}
 use lib.ListN.{length}
 use lib.Ieee.{Float}
 use Rattle.definitions.specs.Number.{scalar}
-use Rattle.definitions.specs.Check.{checked, number, leaves}
+use Rattle.definitions.specs.Check.{checked, number, leaves, reports}
 use Rattle.definitions.specs.declared.Routine.{Routine}
 use Rattle.definitions.specs.declared.Routine.the-variants.{Gemm, Symm, Syrk, Syr2k, Trmm, Trsm}
 use Rattle.definitions.specs.declared.Scalar.the-variants.{Zero}
 use Rattle.definitions.specs.declared.Args.{Args}
+use Rattle.definitions.specs.declared.SolveEnd.{SolveEnd}
 
 -- The number that a direct call gives, and the output's array after it.
 pub record Done : Type 0 where
@@ -152,6 +153,16 @@ unfoldable pub trmm : ℤ → ℤ → ℤ → ℤ → ℤ → ℤ → Float → 
 trmm side uplo transa diag m n alpha a lda b ldb w r =
     done w r (triangularArgs Trmm side uplo transa diag m n alpha (length a) lda (length b) ldb) a [] b
 
-unfoldable pub trsm : ℤ → ℤ → ℤ → ℤ → ℤ → ℤ → Float → List Float → ℤ → List Float → ℤ → ℤ → ℤ → Done
+-- Document 02, K11: a solve "also reports the lowest diagonal index at which A is zero".
+pub record Solved : Type 0 where
+  pub end : SolveEnd
+  pub array : List Float
+
+unfoldable pub solved : ℤ → ℤ → Args → List Float → List Float → List Float → Solved
+solved w r g a b out =
+    let d = done w r g a b out in
+    record { end = record { number = d .number; zero = reports (checked w r g) a }; array = d .array }
+
+unfoldable pub trsm : ℤ → ℤ → ℤ → ℤ → ℤ → ℤ → Float → List Float → ℤ → List Float → ℤ → ℤ → ℤ → Solved
 trsm side uplo transa diag m n alpha a lda b ldb w r =
-    done w r (triangularArgs Trsm side uplo transa diag m n alpha (length a) lda (length b) ldb) a [] b
+    solved w r (triangularArgs Trsm side uplo transa diag m n alpha (length a) lda (length b) ldb) a [] b

@@ -1,18 +1,21 @@
 -- The value of each element: the fold of its terms, which document 01 calls the ladder of one element. And what a strip, and a whole call,
--- leaves in the output's array.
+-- leaves in the output's array, and what a solve reports.
 use Prim.Native.Nat.{ℕ, _-_, _≤_}
-use mathlib.Core.Bool.{Bool, true, false}
+use mathlib.Core.Bool.{Bool, true, false, _||_}
 use mathlib.Core.Path.{_≡_}
 use mathlib.Core.List.{List, [], _∷_, _++_}
+use lib.IntN.{ℤ}
 use lib.ListN.{getD, length, take, drop}
+use lib.Ieee as Ieee
 use lib.Ieee.{Float, nan}
 use Rattle.arrays.specs.Choice.{if_then_else_}
 use Rattle.arrays.specs.Update.{EntryMap, update, entries, only}
 use Rattle.arrays.specs.Fold.{fold, among, solved}
+use Rattle.arrays.specs.Search.{lowest, none, answer}
 use Rattle.floats.specs.Operations.{_⊕_, _⊗_, _⊘_, 0f, 1f, −1f}
 use Rattle.definitions.specs.Number.{isZero, factor, start}
 use Rattle.definitions.specs.Storage.{Matrix, stored, transposed, op, inside, opTriangle, mirrored, withDiagonal}
-use Rattle.definitions.specs.Call.{bySide, inPlace, order, ldOutput, extent, writes}
+use Rattle.definitions.specs.Call.{bySide, inPlace, empty, order, ldOutput, extent, writes}
 use Rattle.definitions.specs.declared.Routine.{Routine}
 use Rattle.definitions.specs.declared.Routine.the-variants.{Gemm, Symm, Syrk, Syr2k, Trmm, Trsm}
 use Rattle.definitions.specs.declared.Side.{Side}
@@ -133,6 +136,17 @@ trsm c A B i j old =
     let r = next (solved next q) q in
     if isZero (c .alpha) then 0f else r
 
+-- Document 02, K11: "at which A is zero (−0.0 counts)": the division is one by zero. With diag U there is none.
+unfoldable pub byZero : Diagonal → Float → Bool
+byZero Unit d = false
+byZero Nonunit d = Ieee.eq d 0f
+
+-- "A nonunit solve now also reports the lowest diagonal index at which A is zero (−0.0 counts), or −1. With a unit diagonal, α zero, m or n zero, .. it reports −1."
+unfoldable pub zeroOnDiagonal : Call → Floats → ℤ
+zeroOnDiagonal c A =
+    let z = answer (order c) (lowest (λ i. byZero (c .diag) (A i i)) (order c)) in
+    if empty c || isZero (c .alpha) then none else z
+
 -- ---- the output's array
 
 -- The value of entry (i, j) of the output, from the arrays a and b and its old value.
@@ -143,6 +157,15 @@ value Syrk c a b = syrk c (stored nan a (c .lda))
 value Syr2k c a b = syr2k c (stored nan a (c .lda)) (stored nan b (c .ldb))
 value Trmm c a b = trmm c (stored nan a (c .lda)) (stored nan b (c .ldb))
 value Trsm c a b = trsm c (stored nan a (c .lda)) (stored nan b (c .ldb))
+
+-- What the call reports: only a solve divides.
+unfoldable pub zeroOf : Routine → Call → List Float → ℤ
+zeroOf Gemm c a = none
+zeroOf Symm c a = none
+zeroOf Syrk c a = none
+zeroOf Syr2k c a = none
+zeroOf Trmm c a = none
+zeroOf Trsm c a = zeroOnDiagonal c (stored nan a (c .lda))
 
 -- The array that B is read from: TRMM and TRSM read it where they write it.
 unfoldable pub arrayB : Call → List Float → List Float → List Float

@@ -6,8 +6,9 @@ use lib.Dec.{leb, ltb, eqb}
 use lib.IntN.{ℤ, pos, negsuc}
 use lib.ListN.{length}
 use Rattle.arrays.specs.Choice.{if_then_else_}
+use Rattle.arrays.specs.Search.{none, earlier}
 use Rattle.definitions.specs.Check.{nat, negative}
-use Rattle.definitions.specs.Machine.{State, stripsOf, iterate, made}
+use Rattle.definitions.specs.Machine.{State, stripsOf, iterate, made, reported}
 use Rattle.definitions.specs.Sheet.{Sheet, Arrays, sound, records, act}
 use Rattle.definitions.specs.declared.RunEnd.{RunEnd}
 
@@ -23,6 +24,9 @@ after t n st = iterate (records t) (act t) n st
 
 unfoldable pub stepsMade : Sheet → ℕ → Machine → ℕ
 stepsMade t n st = made (records t) (act t) n st
+
+unfoldable pub zeroReported : Sheet → ℕ → Machine → ℤ
+zeroReported t n st = reported (records t) (act t) n st
 
 -- ---- the tests of a run
 
@@ -49,25 +53,25 @@ pub record Ran : Type 0 where
   pub arrays : Arrays
   pub answers : List ℤ
 
-abbrev pub ran : ℕ → ℤ → ℤ → ℕ → Arrays → List ℤ → Ran
-ran number p s steps arrays answers = record {
-  end = record { number = pos number; p = p; s = s; steps = steps };
+abbrev pub ran : ℕ → ℤ → ℤ → ℕ → ℤ → Arrays → List ℤ → Ran
+ran number p s steps report arrays answers = record {
+  end = record { number = pos number; p = p; s = s; steps = steps; zero = report };
   arrays = arrays;
   answers = answers;
 }
 
--- An accepted run that went to the machine's state st in so many steps.
-abbrev pub ranTo : Machine → ℕ → Ran
-ranTo st steps = ran 0 (pos (st .p)) (pos (st .s)) steps (st .arrays) (st .answers)
+-- An accepted run that went to the machine's state st in so many steps, with this report.
+abbrev pub ranTo : Machine → ℕ → ℤ → Ran
+ranTo st steps report = ran 0 (pos (st .p)) (pos (st .s)) steps report (st .arrays) (st .answers)
 
 -- "A run takes both and makes that many steps, or fewer if it finishes; it returns 0, the new cursor and the steps made.";
--- "refused, it returns its cursor and 0 steps and writes nothing"
+-- "refused, it returns its cursor and 0 steps and writes nothing"; document 02, K11: "a run reports the first record that had one, or −1" (refused, −1)
 unfoldable pub run : Sheet → ℕ → Arrays → List ℤ → ℤ → ℤ → Ran
 run t budget l answers p s =
     let e = runRefusal t l answers p s in
     let st = begin l answers (nat p) (nat s) in
-    let done = ranTo (after t budget st) (stepsMade t budget st) in
-    let refused = ran e p s 0 l answers in
+    let done = ranTo (after t budget st) (stepsMade t budget st) (zeroReported t budget st) in
+    let refused = ran e p s 0 none l answers in
     if eqb e 0 then done else refused
 
 -- ---- a list of runs
@@ -88,6 +92,11 @@ last r (next ∷ rs) = last next rs
 unfoldable pub totalSteps : List Ran → ℕ
 totalSteps [] = 0
 totalSteps (r ∷ rs) = r .end .steps + totalSteps rs
+
+-- The first of the runs' reports that is not −1, or −1.
+unfoldable pub firstZero : List Ran → ℤ
+firstZero [] = none
+firstZero (r ∷ rs) = earlier (r .end .zero) (firstZero rs)
 
 unfoldable pub numbers : List Ran → List ℤ
 numbers [] = []

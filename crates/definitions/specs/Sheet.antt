@@ -10,7 +10,7 @@ use lib.Ieee.{Float, nan}
 use Rattle.arrays.specs.Choice.{if_then_else_}
 use Rattle.definitions.specs.Number.{scalar}
 use Rattle.definitions.specs.Call.{inPlace, strips}
-use Rattle.definitions.specs.Element.{strip}
+use Rattle.definitions.specs.Element.{strip, zeroOf}
 use Rattle.definitions.specs.Check.{nat, negative, width, refusal, callOf}
 use Rattle.definitions.specs.Machine.{Act, refuse, work}
 use Rattle.definitions.specs.declared.Routine.{Routine}
@@ -179,7 +179,7 @@ stripDone t p f c from to l =
 unfoldable pub accepted : Sheet → ℕ → Routine → Call → Act Arrays
 accepted t p f c =
     let w = widthOf t p in
-    work (strips w c) (λ s l. stripDone t p f c (s * w) (suc s * w) l)
+    work (strips w c) (λ s l. stripDone t p f c (s * w) (suc s * w) l) (λ l. not (negative (zeroOf f c (part t p A l))))
 
 unfoldable pub actBy : Sheet → ℕ → (ℕ → ℕ) → Option Routine → Act Arrays
 actBy t p size none = refuse 31

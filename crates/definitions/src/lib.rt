@@ -90,13 +90,21 @@ pub enum Checked {
     Ready(Call),
 }
 
-// What a run hands back: 0 or its number, the cursor and the steps made.
+// What a solve hands back: 0 or its number, and the lowest diagonal index at which A is zero, or -1.
+#[repr(C)]
+pub struct SolveEnd {
+    pub number: i32,
+    pub zero: i32,
+}
+
+// What a run hands back: 0 or its number, the cursor, the steps made, and the first record whose solve had a zero on the diagonal, or -1.
 #[repr(C)]
 pub struct RunEnd {
     pub number: i32,
     pub p: i32,
     pub s: i32,
     pub steps: u32,
+    pub zero: i32,
 }
 
 impl Scalar {

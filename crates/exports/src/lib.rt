@@ -5,6 +5,7 @@ ghost use Rattle.definitions.specs.Run as Run;
 ghost use Rattle.records.specs.Judgement.{sheetOf, arraysOf};
 ghost use Rattle.sheet.specs.Lent.{ranOf};
 use definitions::RunEnd;
+use definitions::SolveEnd;
 
 #[no_mangle]
 pub extern "C" fn tl_dgemm(
@@ -149,8 +150,8 @@ pub extern "C" fn tl_dtrsm(
     ldb: i32,
     w: i32,
     r: i32,
-) -> i32
-    ensures { λ x. ⌜ (x ≡ Direct.trsm side uplo transa diag m n alpha (now (a .entry)) lda (now (b .entry)) ldb w r .number) × (now (b .exit) ≡ Direct.trsm side uplo transa diag m n alpha (now (a .entry)) lda (now (b .entry)) ldb w r .array) ⌝ }
+) -> SolveEnd
+    ensures { λ x. ⌜ (x ≡ Direct.trsm side uplo transa diag m n alpha (now (a .entry)) lda (now (b .entry)) ldb w r .end) × (now (b .exit) ≡ Direct.trsm side uplo transa diag m n alpha (now (a .entry)) lda (now (b .entry)) ldb w r .array) ⌝ }
 {
     blas::trsm(side, uplo, transa, diag, m, n, alpha, a, lda, b, ldb, w, r)
 }

@@ -2,7 +2,7 @@
 -- Assumes nothing.
 use Prim.Native.Nat.{ℕ, suc, _+_, _*_, _≤_, _<_}
 use mathlib.Core.Path.{_≡_, sym, ap, subst, fun-ext, _∙_}
-use mathlib.Core.Bool.{true}
+use mathlib.Core.Bool.{Bool, true, false, not}
 use mathlib.Core.Option.{Option}
 use mathlib.Core.List.{List, _++_}
 use native.Mathlib.Nat.{mul-le-mul-left, mul-one}
@@ -15,15 +15,15 @@ use lib.Ieee.{Float}
 use borrow.Author.Tests.{ne-eqb}
 use Rattle.arrays.proofs.Tests.{if-true, or-both, by-test}
 use Rattle.definitions.specs.Call.{empty, extent, strips}
-use Rattle.definitions.specs.Element.{strip}
-use Rattle.definitions.specs.Check.{nat, width, idle, checked}
-use Rattle.definitions.specs.Machine.{Act, work, stripsOf, closed, perform}
-use Rattle.definitions.specs.Sheet.{Sheet, Arrays, field, routineOf, output, array, withArray, lengths, part, argsOf, widthOf, stripDone, accepted, act}
+use Rattle.definitions.specs.Element.{strip, zeroOf}
+use Rattle.definitions.specs.Check.{nat, negative, width, idle, checked}
+use Rattle.definitions.specs.Machine.{Act, work, stripsOf, closed, perform, counts}
+use Rattle.definitions.specs.Sheet.{Sheet, Arrays, A, field, routineOf, output, array, withArray, lengths, part, argsOf, widthOf, stripDone, accepted, act}
 use Rattle.definitions.specs.Run.{Machine, begin}
 use Rattle.definitions.specs.declared.Routine.{Routine}
 use Rattle.definitions.specs.declared.Call.{Call}
 use Rattle.definitions.specs.declared.Checked.the-variants.{Ready}
-use Rattle.definitions.proofs.Answers.{idle-keeps}
+use Rattle.definitions.proofs.Answers.{idle-keeps, idle-reports}
 use Rattle.definitions.proofs.CheckLaws.{strip-width, block-size}
 use Rattle.definitions.proofs.Fits.{ready-fits}
 use Rattle.definitions.proofs.Strips.{strip-begins}
@@ -61,6 +61,10 @@ module _ (t : Sheet) (p : ℕ) (l : Arrays) (v : Judged)
       (λ i. record { arrays = l; answers = set answers p (pos e); p = add-one p i; s = 0 })
       ∙ sym (ap (λ (a : Act Arrays). perform a (begin l answers p s)) (does ∙ ap (actOf t p) h))
 
+  pub rejected-counts : (e : ℕ) → v ≡ Rejected e → (st : Machine) → false ≡ counts (act t p l) st
+  unfolding counts actOf
+  rejected-counts e h st = sym (ap (λ (a : Act Arrays). counts a st) (does ∙ ap (actOf t p) h))
+
   pub rejected-strips : (e : ℕ) → v ≡ Rejected e → 0 ≡ stripsOf (act t p l)
   unfolding stripsOf actOf
   rejected-strips e h = sym (ap stripsOf (does ∙ ap (actOf t p) h))
@@ -69,13 +73,20 @@ module _ (t : Sheet) (p : ℕ) (l : Arrays) (v : Judged)
   abbrev pub strip-update : Call → ℕ → Arrays → Arrays
   strip-update c s l = stripDone t p (c .routine) c (s * widthOf t p) (suc s * widthOf t p) l
 
-  module _ (c : Call) (w : ℕ) (ew : w ≡ widthOf t p) (a : act t p l ≡ accepted t p (c .routine) c) where
-    works : act t p l ≡ work (strips w c) (strip-update c)
-    unfolding accepted
-    works = a ∙ ap (λ (k : ℕ). work (strips k c) (strip-update c)) (sym ew)
+  abbrev pub singular : Call → Arrays → Bool
+  singular c l = not (negative (zeroOf (c .routine) c (part t p A l)))
 
-    pub accepted-step : (n : ℕ) → n ≡ strips w c → (st st′ : Machine) → st′ ≡ perform (work n (strip-update c)) st → st′ ≡ perform (act t p l) st
-    accepted-step n en st st′ h = h ∙ sym (ap (λ (a : Act Arrays). perform a st) (works ∙ ap (λ (k : ℕ). work k (strip-update c)) (sym en)))
+  module _ (c : Call) (w : ℕ) (ew : w ≡ widthOf t p) (a : act t p l ≡ accepted t p (c .routine) c) where
+    works : act t p l ≡ work (strips w c) (strip-update c) (singular c)
+    unfolding accepted
+    works = a ∙ ap (λ (k : ℕ). work (strips k c) (strip-update c) (singular c)) (sym ew)
+
+    -- the state after a step, and whether it counts
+    pub accepted-step : (n : ℕ) → n ≡ strips w c → (st st′ : Machine) (z : Bool) → (st′ ≡ perform (work n (strip-update c) (singular c)) st) × (z ≡ counts (work n (strip-update c) (singular c)) st)
+        → (st′ ≡ perform (act t p l) st) × (z ≡ counts (act t p l) st)
+    accepted-step n en st st′ z h =
+        let e = sym (works ∙ ap (λ (k : ℕ). work k (strip-update c) (singular c)) (sym en)) in
+        (h .0 ∙ ap (λ (a : Act Arrays). perform a st) e, h .1 ∙ ap (λ (a : Act Arrays). counts a st) e)
 
     pub accepted-strips : stripsOf (act t p l) ≡ strips w c
     unfolding stripsOf
@@ -116,6 +127,9 @@ module _ (t : Sheet) (p : ℕ) (l : Arrays) (v : Judged)
 
   pub none-strip : (c : Call) → v ≡ NoWork c → (s : ℕ) → l ≡ strip-update c s l
   none-strip c h s = idle-strip t p _ c _ _ l (when-none t p (lengths l) _ c (judgement ∙ h) .1)
+
+  pub none-reports : (c : Call) → v ≡ NoWork c → false ≡ singular c l
+  none-reports c h = sym (ap (λ (z : ℤ). not (negative z)) (idle-reports c (part t p A l) (when-none t p (lengths l) _ c (judgement ∙ h) .1)))
 
   pub work-known : (c : Call) → v ≡ Work c → Known c
   work-known c h = known-by c (when-work t p (lengths l) _ c (judgement ∙ h) .0)

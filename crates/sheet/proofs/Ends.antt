@@ -9,13 +9,14 @@ use lib.Dec.{ltb, eqb}
 use lib.IntN.{ℤ, pos}
 use lib.ListN.{length}
 use borrow.Author.Tests.{not-false, ltb-false, eq-eqb, ne-eqb}
+use Rattle.arrays.specs.Search.{none}
 use Rattle.arrays.proofs.Tests.{or-left, or-right, if-true, if-false, by-test}
 use Rattle.definitions.specs.Check.{nat}
-use Rattle.definitions.specs.Machine.{iterate, made}
+use Rattle.definitions.specs.Machine.{iterate, made, reported}
 use Rattle.definitions.specs.Sheet.{Sheet, Arrays, sound, records, act}
 use Rattle.definitions.proofs.MachineLaws.{Placed}
 use Rattle.definitions.proofs.Runs.{cursor-placed}
-use Rattle.definitions.specs.Run.{begin, after, stepsMade, tooShort, badCursor, runRefusal, ran, ranTo, run}
+use Rattle.definitions.specs.Run.{begin, after, stepsMade, zeroReported, tooShort, badCursor, runRefusal, ran, ranTo, run}
 
 module _ (t : Sheet) (l : Arrays) (answers : List ℤ) (p s : ℤ) where
   abbrev e : ℕ
@@ -49,19 +50,20 @@ module _ (t : Sheet) (l : Arrays) (answers : List ℤ) (p s : ℤ) where
       (λ b. absurd (let q : 36 ≡ 0 = sym (if-true (badCursor t l p s) 36 _ b) ∙ z2 in let f : ⊥ = omega arith in f))
       (λ b. record { trailer = not-false (sound t) h; long = k; cursor = b })))
 
-  pub run-refused : (budget n : ℕ) → n ≡ e → (n ≡ 0 → ⊥) → ran n p s 0 l answers ≡ run t budget l answers p s
+  pub run-refused : (budget n : ℕ) → n ≡ e → (n ≡ 0 → ⊥) → ran n p s 0 none l answers ≡ run t budget l answers p s
   unfolding run
-  run-refused budget n en some = ap (λ (k : ℕ). ran k p s 0 l answers) en ∙ sym (if-false (eqb e 0) _ _ (ne-eqb e 0 (λ z. some (en ∙ z))))
+  run-refused budget n en some = ap (λ (k : ℕ). ran k p s 0 none l answers) en ∙ sym (if-false (eqb e 0) _ _ (ne-eqb e 0 (λ z. some (en ∙ z))))
 
-  pub run-goes : (budget n steps : ℕ) (l′ : Arrays) (answers′ : List ℤ) (p′ s′ : ℕ) (a b : ℤ) → a ≡ pos p′ → b ≡ pos s′ → e ≡ 0 → n ≡ records t
+  pub run-goes : (budget n steps : ℕ) (z : ℤ) (l′ : Arrays) (answers′ : List ℤ) (p′ s′ : ℕ) (a b : ℤ) → a ≡ pos p′ → b ≡ pos s′ → e ≡ 0 → n ≡ records t
       → begin l′ answers′ p′ s′ ≡ iterate n (act t) budget (begin l answers (nat p) (nat s)) → steps ≡ made n (act t) budget (begin l answers (nat p) (nat s))
-      → ran 0 a b steps l′ answers′ ≡ run t budget l answers p s
-  unfolding run after stepsMade begin
-  run-goes budget n steps l′ answers′ p′ s′ a b ea eb z en eg es =
+      → z ≡ reported n (act t) budget (begin l answers (nat p) (nat s)) → ran 0 a b steps z l′ answers′ ≡ run t budget l answers p s
+  unfolding run after stepsMade zeroReported begin
+  run-goes budget n steps z l′ answers′ p′ s′ a b ea eb ok en eg es ez =
       let st = begin l answers (nat p) (nat s) in
       let here = eg ∙ ap (λ (k : ℕ). iterate k (act t) budget st) en in
       let many = es ∙ ap (λ (k : ℕ). made k (act t) budget st) en in
-      (λ i. ran 0 (ea i) (eb i) steps l′ answers′) ∙ (λ i. ranTo (here i) (many i)) ∙ sym (if-true (eqb e 0) _ _ (eq-eqb e 0 z))
+      let found = ez ∙ ap (λ (k : ℕ). reported k (act t) budget st) en in
+      (λ i. ran 0 (ea i) (eb i) steps z l′ answers′) ∙ (λ i. ranTo (here i) (many i) (found i)) ∙ sym (if-true (eqb e 0) _ _ (eq-eqb e 0 ok))
 
 -- what "long enough" means
 pub long-enough : (t : Sheet) (answers : List ℤ) → tooShort t answers ≡ false → (records t ≤ length answers) × (2 * records t ≤ length (t .scalars))

@@ -17,7 +17,7 @@ use Rattle.arrays.specs.Choice.{if_then_else_}
 use Rattle.arrays.proofs.Tests.{if-true, if-false, by-test}
 use Rattle.definitions.specs.Storage.{needed}
 use Rattle.definitions.specs.Call.{inPlace, shapeB, shapeC, extent}
-use Rattle.definitions.specs.Element.{strip}
+use Rattle.definitions.specs.Element.{strip, zeroOf}
 use Rattle.definitions.specs.Check.{nat, checked}
 use Rattle.definitions.specs.Sheet.{Sheet, Arrays, A, B, C, index, field, inputs, any, output, array, withArray, lengths, part, partLength, argsOf, stripDone}
 use Rattle.definitions.specs.declared.Routine.{Routine}
@@ -32,7 +32,7 @@ use Rattle.strips.specs.Lengths.{FitsArrays}
 use Rattle.records.specs.Judgement.{second, partAt}
 use Rattle.records.specs.declared.Part.{Part}
 use Rattle.records.proofs.Judgements.{field-is}
-use Rattle.sheet.specs.Lent.{least, stripAt, Lends}
+use Rattle.sheet.specs.Lent.{least, stripAt, zeroAt, Lends}
 
 -- ---- the smaller of two
 
@@ -222,6 +222,10 @@ module _ (t : Sheet) (words : List ℤ) (p at : ℕ) (is : t .words ≡ words) (
       (λ i. stripAt c (place (output (c .routine)) i) (place A i) (place (second (c .routine)) i) (s * w) (s * w + least w (extent c - s * w)) l)
       ∙ strip-made t p l (c .routine) c ok e ready s w inside
 
+  pub record-zero : zeroAt c (partAt words at A) l ≡ zeroOf (c .routine) c (part t p A l)
+  unfolding zeroAt part
+  record-zero = ap (λ (m : Part). zeroAt c m l) (place A)
+
 -- ---- as the code lends them
 
 pub fits-lengths : (c : Call) (a b out a′ b′ out′ : ℕ) → a ≡ a′ → b ≡ b′ → out ≡ out′ → FitsArrays c a′ b′ out′ → FitsArrays c a b out
@@ -235,6 +239,13 @@ lend-back c from to off offa offb out a b a′ b′ ys h ea eb ey =
     put-tail off out ys h
     ∙ ap (λ (zs : List Float). take off out ++ zs)
     (ey ∙ (λ i. strip c ((tail offa a ∙ ap (drop offa) ea) i) ((tail offb b ∙ ap (drop offb) eb) i) from to (tail off out i)))
+
+pub lend-reports : (c : Call) (offa : ℕ) (a a′ : List Float) → a ≡ a′ → zeroOf (c .routine) c (take (length a - offa) (drop offa a)) ≡ zeroOf (c .routine) c (drop offa a′)
+lend-reports c offa a a′ e = ap (zeroOf (c .routine) c) (tail offa a ∙ ap (drop offa) e)
+
+pub report-is : (c : Call) (a : Part) (l : Arrays) (xs : List Float) → xs ≡ array l (a .array) → zeroOf (c .routine) c (drop (a .offset) xs) ≡ zeroAt c a l
+unfolding zeroAt
+report-is c a l xs e = ap (λ (xs : List Float). zeroOf (c .routine) c (drop (a .offset) xs)) e
 
 pub lends-same : (c : Call) (out a b out′ a′ b′ : Part) (l : Arrays) → out ≡ out′ → a ≡ a′ → b ≡ b′ → Lends c out′ a′ b′ l → Lends c out a b l
 lends-same c out a b out′ a′ b′ l eo ea eb h =

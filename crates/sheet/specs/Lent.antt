@@ -6,7 +6,7 @@ use lib.Dec.{ltb}
 use lib.IntN.{ℤ}
 use lib.ListN.{length, take, drop}
 use Rattle.arrays.specs.Choice.{if_then_else_}
-use Rattle.definitions.specs.Element.{strip}
+use Rattle.definitions.specs.Element.{strip, zeroOf}
 use Rattle.definitions.specs.Sheet.{Arrays, array, withArray}
 use Rattle.definitions.specs.Run.{Ran}
 use Rattle.definitions.specs.declared.Call.{Call}
@@ -28,6 +28,10 @@ stripAt call out a b from to l =
     withArray l (out .array)
     (take (out .offset) o
     ++ strip call (drop (a .offset) (array l (a .array))) (drop (b .offset) (array l (b .array))) from to (drop (out .offset) o))
+
+-- What the call reports, if its A is this matrix.
+unfoldable pub zeroAt : Call → Part → Arrays → ℤ
+zeroAt call a l = zeroOf (call .routine) call (drop (a .offset) (array l (a .array)))
 
 -- The matrices are in lent arrays, the inputs in others than the output, and fit the call.
 pub record Lends (call : Call) (out a b : Part) (l : Arrays) : Type 0 where

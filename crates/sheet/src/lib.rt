@@ -1,9 +1,12 @@
 // The sheet runner: at most so many steps of the plain machine, from a cursor on.
 ghost use mathlib.Core.Path.{_≡_};
+ghost use mathlib.Core.Bool.{Bool, not};
 ghost use mathlib.Core.List.{_++_};
 ghost use Prim.Native.Nat.{ℕ, _+_, _-_, _*_, _^_, _≤_, _<_};
+ghost use lib.IntN.{pos};
 ghost use lib.ListN.{length, take, drop};
 ghost use Rattle.arrays.specs.Choice.{if_then_else_};
+ghost use Rattle.arrays.specs.Search as Search;
 ghost use Rattle.definitions.specs.Call as Calls;
 ghost use Rattle.definitions.specs.Element as Element;
 ghost use Rattle.definitions.specs.Check as Check;
@@ -21,17 +24,19 @@ use definitions::RunEnd;
 use records::Judged;
 use records::Part;
 
-// Where the machine is.
+// Where the machine is after a step, and whether the step was the last strip of a solve with a zero on the diagonal.
 pub struct Cursor {
     pub p: usize,
     pub s: usize,
+    pub zero: bool,
 }
 
-// Where a run of so many steps ended.
+// Where a run of so many steps ended, and the first record whose solve had a zero on the diagonal, or -1.
 pub struct Went {
     pub p: usize,
     pub s: usize,
     pub steps: u32,
+    pub zero: i32,
 }
 
 // ---- one strip
@@ -49,6 +54,7 @@ fn least(a: usize, b: usize) -> usize
 }
 
 // The columns, or rows, from `from` on of a call, in blocks of r. The output is its array's part from `off` on; A is in x if `ina`, else in y, from `offa` on; so is B.
+// It hands back what the strip reports.
 fn lend<'a>(
     call: Call,
     out: &mut [f64],
@@ -62,16 +68,17 @@ fn lend<'a>(
     from: usize,
     cols: usize,
     r: usize,
-)
+) -> i32
     requires { ⌜ (off ≤ length (now out)) × (offa ≤ length (if ina then now x else now y)) × (offb ≤ length (if inb then now x else now y)) ⌝ }
     requires { ⌜ FitsArrays call (length (if ina then now x else now y) - offa) (length (if inb then now x else now y) - offb) (length (now out) - off) ⌝ }
     requires { ⌜ (0 < cols) × (cols ≤ 64) × (from + cols ≤ Calls.extent call) × (0 < r) × (r ≤ 64) ⌝ }
-    ensures { λ _. ⌜ now (out .exit) ≡ take off (now (out .entry)) ++ Element.strip call (drop offa (if ina then now (x .entry) else now (y .entry)))
-        (drop offb (if inb then now (x .entry) else now (y .entry))) from (from + cols) (drop off (now (out .entry))) ⌝ }
+    ensures { λ z. ⌜ (now (out .exit) ≡ take off (now (out .entry)) ++ Element.strip call (drop offa (if ina then now (x .entry) else now (y .entry)))
+        (drop offb (if inb then now (x .entry) else now (y .entry))) from (from + cols) (drop off (now (out .entry))))
+        × (z ≡ Element.zeroOf (call .routine) call (drop offa (if ina then now (x .entry) else now (y .entry)))) ⌝ }
 {
     let a = pick(ina, x, y);
     let b = pick(inb, x, y);
-    strips::strip(call, &a[offa..], &b[offb..], &mut out[off..], from, cols, r);
+    strips::strip(call, &a[offa..], &b[offb..], &mut out[off..], from, cols, r)
 }
 
 // The same, on the arrays: the output's is lent for writing, the other two for reading.
@@ -86,10 +93,11 @@ fn put(
     from: usize,
     cols: usize,
     r: usize,
-)
+) -> i32
     requires { ⌜ Lent.Lends call out a b (arraysOf (now x) (now y) (now z)) ⌝ }
     requires { ⌜ (0 < cols) × (cols ≤ 64) × (from + cols ≤ Calls.extent call) × (0 < r) × (r ≤ 64) ⌝ }
-    ensures { λ _. ⌜ arraysOf (now (x .exit)) (now (y .exit)) (now (z .exit)) ≡ Lent.stripAt call out a b from (from + cols) (arraysOf (now (x .entry)) (now (y .entry)) (now (z .entry))) ⌝ }
+    ensures { λ e. ⌜ (arraysOf (now (x .exit)) (now (y .exit)) (now (z .exit)) ≡ Lent.stripAt call out a b from (from + cols) (arraysOf (now (x .entry)) (now (y .entry)) (now (z .entry))))
+        × (e ≡ Lent.zeroAt call a (arraysOf (now (x .entry)) (now (y .entry)) (now (z .entry)))) ⌝ }
 {
     let n = out.array;
     let off = out.offset;
@@ -98,7 +106,7 @@ fn put(
     let j = b.array;
     let offb = b.offset;
     if n == 0 {
-        lend(
+        return lend(
             call,
             x,
             off,
@@ -112,10 +120,9 @@ fn put(
             cols,
             r,
         );
-        return;
     }
     if n == 1 {
-        lend(
+        return lend(
             call,
             y,
             off,
@@ -129,7 +136,6 @@ fn put(
             cols,
             r,
         );
-        return;
     }
     lend(
         call,
@@ -144,10 +150,10 @@ fn put(
         from,
         cols,
         r,
-    );
+    )
 }
 
-// Strip s of the record that begins at word `at` and whose call is this one.
+// Strip s of the record that begins at word `at` and whose call is this one. It hands back whether the call is a solve with a zero on the diagonal.
 fn work(
     sheet: &[i32],
     at: usize,
@@ -158,13 +164,14 @@ fn work(
     s: usize,
     w: usize,
     r: usize,
-)
+) -> bool
     requires { ⌜ Lent.Lends call (Judgement.partAt (now sheet) at (Sheet.output (call .routine))) (Judgement.partAt (now sheet) at Sheet.A)
         (Judgement.partAt (now sheet) at (Judgement.second (call .routine))) (arraysOf (now x) (now y) (now z)) ⌝ }
     requires { ⌜ (at + 20 ≤ length (now sheet)) × (s * w < Calls.extent call) × (0 < w) × (w ≤ 64) × (0 < r) × (r ≤ 64) ⌝ }
-    ensures { λ _. ⌜ arraysOf (now (x .exit)) (now (y .exit)) (now (z .exit)) ≡ Lent.stripAt call (Judgement.partAt (now (sheet .entry)) at (Sheet.output (call .routine)))
+    ensures { λ e. ⌜ (arraysOf (now (x .exit)) (now (y .exit)) (now (z .exit)) ≡ Lent.stripAt call (Judgement.partAt (now (sheet .entry)) at (Sheet.output (call .routine)))
         (Judgement.partAt (now (sheet .entry)) at Sheet.A) (Judgement.partAt (now (sheet .entry)) at (Judgement.second (call .routine)))
-        (s * w) (s * w + Lent.least w (Calls.extent call - s * w)) (arraysOf (now (x .entry)) (now (y .entry)) (now (z .entry))) ⌝ }
+        (s * w) (s * w + Lent.least w (Calls.extent call - s * w)) (arraysOf (now (x .entry)) (now (y .entry)) (now (z .entry))))
+        × (e ≡ not (Check.negative (Lent.zeroAt call (Judgement.partAt (now (sheet .entry)) at Sheet.A) (arraysOf (now (x .entry)) (now (y .entry)) (now (z .entry)))))) ⌝ }
 {
     let routine = call.routine;
     let out = records::part_at(sheet, at, records::output(routine));
@@ -173,23 +180,32 @@ fn work(
     let d = arguments::extent(call);
     let from = s * w;
     let cols = least(w, d - from);
-    put(call, out, a, b, x, y, z, from, cols, r);
+    !arguments::negative(put(call, out, a, b, x, y, z, from, cols, r))
 }
 
 // ---- one step
 
-// After strip s of n: to the next one, or, with answer 0, to the next record.
-fn advance(answers: &mut [i32], p: usize, s: usize, n: usize) -> Cursor
+// After strip s of n: to the next one, or, with answer 0, to the next record; then a zero on the diagonal counts.
+fn advance(answers: &mut [i32], p: usize, s: usize, n: usize, zero: bool) -> Cursor
     requires { ⌜ (p < length (now answers)) × (s < 2 ^ 31) ⌝ }
-    ensures { λ r. ⌜ ((f : ℕ → Arrays → Arrays) (l m : Arrays) → m ≡ f s l
-        → Run.begin m (now (answers .exit)) (r .p) (r .s) ≡ Machine.perform (Machine.work n f) (Run.begin l (now (answers .entry)) p s))
+    ensures { λ r. ⌜ ((f : ℕ → Arrays → Arrays) (g : Arrays → Bool) (l m : Arrays) → m ≡ f s l → zero ≡ g l
+        → (Run.begin m (now (answers .exit)) (r .p) (r .s) ≡ Machine.perform (Machine.work n f g) (Run.begin l (now (answers .entry)) p s))
+        × (r .zero ≡ Machine.counts (Machine.work n f g) (Run.begin l (now (answers .entry)) p s)))
         × (0 < r .s → (r .s < n) × (r .s ≡ s + 1)) ⌝ }
 {
     if s + 1 < n {
-        Cursor { p: p, s: s + 1 }
+        Cursor {
+            p: p,
+            s: s + 1,
+            zero: false,
+        }
     } else {
         answers[p] = 0;
-        Cursor { p: p + 1, s: 0 }
+        Cursor {
+            p: p + 1,
+            s: 0,
+            zero: zero,
+        }
     }
 }
 
@@ -209,28 +225,45 @@ fn step(
     requires { ⌜ (0 < s → s < Machine.stripsOf (Sheet.act (Judgement.sheetOf (now sheet) (now scalars)) p (arraysOf (now x) (now y) (now z)))) × (s < 2 ^ 31) ⌝ }
     ensures { λ r. ⌜ (Run.begin (arraysOf (now (x .exit)) (now (y .exit)) (now (z .exit))) (now (answers .exit)) (r .p) (r .s)
         ≡ Machine.perform (Sheet.act (Judgement.sheetOf (now (sheet .entry)) (now (scalars .entry))) p (arraysOf (now (x .entry)) (now (y .entry)) (now (z .entry))))
-        (Run.begin (arraysOf (now (x .entry)) (now (y .entry)) (now (z .entry))) (now (answers .entry)) p s)) × (r .s < 2 ^ 31) ⌝ }
+        (Run.begin (arraysOf (now (x .entry)) (now (y .entry)) (now (z .entry))) (now (answers .entry)) p s)) × (r .s < 2 ^ 31)
+        × (r .zero ≡ Machine.counts (Sheet.act (Judgement.sheetOf (now (sheet .entry)) (now (scalars .entry))) p (arraysOf (now (x .entry)) (now (y .entry)) (now (z .entry))))
+        (Run.begin (arraysOf (now (x .entry)) (now (y .entry)) (now (z .entry))) (now (answers .entry)) p s)) ⌝ }
 {
     let v = records::judge(sheet, scalars, at, p, x.len(), y.len(), z.len());
     match v {
         Judged::Rejected(number) => {
             answers[p] = number as i32;
-            Cursor { p: p + 1, s: 0 }
+            Cursor {
+                p: p + 1,
+                s: 0,
+                zero: false,
+            }
         }
         Judged::NoWork(call) => {
             let w = arguments::width(records::word(sheet, at, 18));
-            advance(answers, p, s, arguments::strips(w, call))
+            advance(answers, p, s, arguments::strips(w, call), false)
         }
         Judged::Work(call) => {
             let w = arguments::width(records::word(sheet, at, 18));
             let r = arguments::width(records::word(sheet, at, 19));
-            work(sheet, at, call, x, y, z, s, w, r);
-            advance(answers, p, s, arguments::strips(w, call))
+            let zero = work(sheet, at, call, x, y, z, s, w, r);
+            advance(answers, p, s, arguments::strips(w, call), zero)
         }
     }
 }
 
 // ---- a run
+
+// The report so far or, if it is -1 and record q has a zero, q.
+fn earlier(zero: i32, found: bool, q: usize) -> i32
+    requires { ⌜ q < 2 ^ 31 ⌝ }
+    ensures { λ r. ⌜ r ≡ Search.earlier zero (if found then pos q else Search.none) ⌝ }
+{
+    if !arguments::negative(zero) {
+        return zero;
+    }
+    if found { q as i32 } else { -1 }
+}
 
 // At most so many steps from a sound cursor, over the records that begin at word `index`.
 fn go(
@@ -247,17 +280,20 @@ fn go(
     budget: u32,
 ) -> Went
     requires { ⌜ (index ≡ Check.nat (Sheet.index (Judgement.sheetOf (now sheet) (now scalars)))) × (index + 20 * count ≤ length (now sheet))
-        × (2 * count ≤ length (now scalars)) × (count ≤ length (now answers)) ⌝ }
+        × (2 * count ≤ length (now scalars)) × (count ≤ length (now answers)) × (count < 2 ^ 31) ⌝ }
     requires { ⌜ Placed count (Sheet.act (Judgement.sheetOf (now sheet) (now scalars))) (Run.begin (arraysOf (now x) (now y) (now z)) (now answers) p s) × (s < 2 ^ 31) ⌝ }
     ensures { λ r. ⌜ (Run.begin (arraysOf (now (x .exit)) (now (y .exit)) (now (z .exit))) (now (answers .exit)) (r .p) (r .s)
         ≡ Machine.iterate count (Sheet.act (Judgement.sheetOf (now (sheet .entry)) (now (scalars .entry)))) budget
         (Run.begin (arraysOf (now (x .entry)) (now (y .entry)) (now (z .entry))) (now (answers .entry)) p s))
         × (r .steps ≡ Machine.made count (Sheet.act (Judgement.sheetOf (now (sheet .entry)) (now (scalars .entry)))) budget
         (Run.begin (arraysOf (now (x .entry)) (now (y .entry)) (now (z .entry))) (now (answers .entry)) p s))
-        × (r .p ≤ count) × (r .s < 2 ^ 31) ⌝ }
+        × (r .p ≤ count) × (r .s < 2 ^ 31)
+        × (r .zero ≡ Machine.reported count (Sheet.act (Judgement.sheetOf (now (sheet .entry)) (now (scalars .entry)))) budget
+        (Run.begin (arraysOf (now (x .entry)) (now (y .entry)) (now (z .entry))) (now (answers .entry)) p s)) ⌝ }
 {
     let mut q = p;
     let mut t = s;
+    let mut zero = -1;
     let mut steps: u32 = 0;
     while steps < budget {
         if count <= q {
@@ -265,9 +301,11 @@ fn go(
                 p: q,
                 s: t,
                 steps: steps,
+                zero: zero,
             };
         }
         let next = step(sheet, scalars, index + 20 * q, x, y, z, answers, q, t);
+        zero = earlier(zero, next.zero, q);
         q = next.p;
         t = next.s;
         steps += 1;
@@ -276,11 +314,12 @@ fn go(
         p: q,
         s: t,
         steps: steps,
+        zero: zero,
     }
 }
 
-// A run: so many steps of the plain machine from the cursor (p, s) on, or fewer if it finishes. It hands back 0, the new cursor and the steps made; or its number, its
-// cursor and no steps, and then it writes nothing.
+// A run: so many steps of the plain machine from the cursor (p, s) on, or fewer if it finishes. It hands back 0, the new cursor, the steps made and the first record
+// whose solve had a zero on the diagonal, or -1; or its number, its cursor, no steps and -1, and then it writes nothing.
 pub fn run(
     sheet: &[i32],
     scalars: &[f64],
@@ -302,6 +341,7 @@ pub fn run(
             p: p,
             s: s,
             steps: 0,
+            zero: -1,
         };
     }
     let length = sheet.len();
@@ -315,5 +355,6 @@ pub fn run(
         p: went.p as i32,
         s: went.s as i32,
         steps: went.steps,
+        zero: went.zero,
     }
 }

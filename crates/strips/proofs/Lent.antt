@@ -1,10 +1,11 @@
--- A strip's part is lent to the routine's update and comes back, and what the update asks of it; then all strips in turn.
+-- A strip's part is lent to the routine's update and comes back, what the update asks of it, and what it reports; then all strips in turn.
 -- Assumes nothing.
 use Prim.Native.Nat.{ℕ, _+_, _-_, _*_, _≤_, _<_}
 use mathlib.Core.Path.{_≡_, refl, sym, ap, subst, _∙_}
 use mathlib.Core.Bool.{Bool, true, false, _&&_, true≢false}
 use mathlib.Core.List.{List}
 use native.Mathlib.Omega.{arith}
+use lib.IntN.{ℤ}
 use lib.ListN.{length, take, drop}
 use lib.Ieee.{Float}
 use borrow.Rule.Slice.PartMut.{putMid}
@@ -13,7 +14,7 @@ use Rattle.arrays.proofs.Tests.{if-true, if-false}
 use Rattle.arrays.proofs.UpdateLaws.{length-update}
 use Rattle.arrays.proofs.PartLaws.{tail, tail-length, put-tail}
 use Rattle.definitions.specs.Call.{_by_, bySide, inPlace, ldOutput, cutsRows, extent}
-use Rattle.definitions.specs.Element.{strip, result, StripOf}
+use Rattle.definitions.specs.Element.{zeroOf, strip, result, StripOf}
 use Rattle.definitions.specs.declared.Routine.{Routine}
 use Rattle.definitions.specs.declared.Side.{Side}
 use Rattle.definitions.specs.declared.Side.the-variants.{Left, Right}
@@ -54,6 +55,10 @@ put-strip c a b from to x y l ys xl e h =
 module _ (f : Routine) (c : Call) (is : c .routine ≡ f) where
   fits-of : (la lb len : ℕ) → FitsArrays c la lb len → Fits f c la (if inPlace f then len else lb) len
   fits-of la lb len h = subst (λ (f : Routine). Fits f c la (if inPlace f then len else lb) len) is h
+
+  -- what the routine reports the call reports
+  pub reports : (a : List Float) (z : ℤ) → z ≡ zeroOf f c a → z ≡ zeroOf (c .routine) c a
+  reports a z h = h ∙ ap (λ (f : Routine). zeroOf f c a) (sym is)
 
   -- A routine that writes C: strips cut columns, and what the part has, with what stands before it, is what the array has.
   module _ (writes-C : inPlace f ≡ false) where
@@ -105,6 +110,15 @@ in-place-room c la lb len h e =
 
 pub fits-still : (c : Call) (la lb n m : ℕ) → m ≡ n → FitsArrays c la lb n → FitsArrays c la lb m
 fits-still c la lb n m e h = subst (λ (n : ℕ). FitsArrays c la lb n) (sym e) h
+
+-- there is a strip
+pub some-lines : (c : Call) (la lb len : ℕ) → FitsArrays c la lb len → 0 < extent c
+unfolding extent
+some-lines c la lb len h = go (cutsRows (c .routine) (c .side))
+  where
+    go : (b : Bool) → 0 < (if b then c .m else c .n)
+    go true = h .some-rows
+    go false = h .some-columns
 
 -- one strip more
 pub strip-next : (c : Call) (a b : List Float) (la lb len from to : ℕ) (l m r : List Float) → FitsArrays c la lb len → from ≤ to

@@ -8,21 +8,46 @@ ghost use Rattle.strips.specs.Lengths.{FitsArrays};
 use definitions::Call;
 use definitions::Routine;
 
-// The strip of `lines` columns from `from` on, or rows where strips cut rows, of a call that fits, in blocks of r.
-pub fn strip(call: Call, a: &[f64], b: &[f64], out: &mut [f64], from: usize, lines: usize, r: usize)
+// The strip of `lines` columns from `from` on, or rows where strips cut rows, of a call that fits, in blocks of r. A solve hands back the lowest diagonal index at
+// which A is zero; where there is none, and for the other routines, it is -1.
+pub fn strip(
+    call: Call,
+    a: &[f64],
+    b: &[f64],
+    out: &mut [f64],
+    from: usize,
+    lines: usize,
+    r: usize,
+) -> i32
     requires { ⌜ FitsArrays call (length (now a)) (length (now b)) (length (now out)) ⌝ }
     requires { ⌜ (0 < lines) × (lines ≤ 64) × (from + lines ≤ Calls.extent call) × (0 < r) × (r ≤ 64) ⌝ }
-    ensures { λ _. ⌜ now (out .exit) ≡ Element.strip call (now (a .entry)) (now (b .entry)) from (from + lines) (now (out .entry)) ⌝ }
+    ensures { λ x. ⌜ (now (out .exit) ≡ Element.strip call (now (a .entry)) (now (b .entry)) from (from + lines) (now (out .entry)))
+        × (x ≡ Element.zeroOf (call .routine) call (now (a .entry))) ⌝ }
 {
     let routine = call.routine;
     let x = arguments::strip_start(call, from);
     let part = &mut out[x..];
     match routine {
-        Routine::Gemm => gemm::gemm_strip(call, a, b, part, from, lines, r),
-        Routine::Symm => gemm::symm_strip(call, a, b, part, from, lines, r),
-        Routine::Syrk => rank_update::syrk_strip(call, a, b, part, from, lines, r),
-        Routine::Syr2k => rank_update::syr2k_strip(call, a, b, part, from, lines, r),
-        Routine::Trmm => trmm::trmm_strip(call, a, part, from, lines, r),
+        Routine::Gemm => {
+            gemm::gemm_strip(call, a, b, part, from, lines, r);
+            -1
+        }
+        Routine::Symm => {
+            gemm::symm_strip(call, a, b, part, from, lines, r);
+            -1
+        }
+        Routine::Syrk => {
+            rank_update::syrk_strip(call, a, b, part, from, lines, r);
+            -1
+        }
+        Routine::Syr2k => {
+            rank_update::syr2k_strip(call, a, b, part, from, lines, r);
+            -1
+        }
+        Routine::Trmm => {
+            trmm::trmm_strip(call, a, part, from, lines, r);
+            -1
+        }
         Routine::Trsm => trsm::trsm_strip(call, a, part, from, lines, r),
     }
 }

@@ -195,7 +195,7 @@ fn row_j() -> bool {
 
 fn row_k() -> bool {
     let mut b = [3.0, 7.0];
-    let number = blas::trsm(
+    let end = blas::trsm(
         L,
         L,
         N,
@@ -210,14 +210,14 @@ fn row_k() -> bool {
         64,
         64,
     );
-    (number == 0) & agree(&b, &[3.0, 2.75])
+    (end.number == 0) & agree(&b, &[3.0, 2.75])
 }
 
 fn row_l() -> bool {
     let a = [1.0, 0.0, 0.0, 1.0, 1.0, 0.0, 1.0, 0.0, 1.0];
     let mut b = [1.0, P, -P];
-    let number = blas::trsm(L, U, N, U, 3, 1, 1.0, &a, 3, &mut b, 3, 64, 64);
-    (number == 0) & agree(&b, &[0.0, P, -P])
+    let end = blas::trsm(L, U, N, U, 3, 1, 1.0, &a, 3, &mut b, 3, 64, 64);
+    (end.number == 0) & agree(&b, &[0.0, P, -P])
 }
 
 // An accepted run that ended at the cursor (p, s).

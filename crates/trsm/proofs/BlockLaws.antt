@@ -36,7 +36,7 @@ use Rattle.trsm.proofs.StateLaws.{value-from, value-only, block-ended, 
 -- ---- the diagonal
 
 -- that of op(A) is A's
-diagonal-index : (t : Transpose) (ld i : ℕ) → indexOf (opForm t) ld i i ≡ i * ld + i
+pub diagonal-index : (t : Transpose) (ld i : ℕ) → indexOf (opForm t) ld i i ≡ i * ld + i
 unfolding indexOf
 diagonal-index No ld i = refl
 diagonal-index Yes ld i = refl

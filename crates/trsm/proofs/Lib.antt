@@ -3,6 +3,7 @@ pub mod StateLaws
 pub mod AcrossLaws
 pub mod FactorLaws
 pub mod BlockLaws
+pub mod ZeroLaws
 pub mod StepLaws
 pub mod WayLaws
 pub mod LineLaws

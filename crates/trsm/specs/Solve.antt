@@ -12,15 +12,16 @@
 --     valueFactor, matrixFactor   the two factors of a term: -1.0 is with the value of the unknown for side L, and with the entry of op(A) for side R
 --     blockValue  the value of unknown q of a diagonal block T of order n; s is what the sums of a line start with, by element
 --     packedTerm, packedValue   a term and a value of such a block by factors: row i of v has those of the entries for element i, in the order of solving, and D has the diagonal
+--     zeroAmong   the divisions by zero of the unknowns from the p-th on and below the e-th, by index
 --     goesDown    solving goes from the last index down, if A's triangle is the one given
 --     lineValue   the value of element i of a line; b is the line as it was
 --     Step        what a part of the solution does: whatever the sums started with, the unknowns come from one state to another
 use mathlib.Core.Path.{_≡_}
-use mathlib.Core.Bool.{Bool, true, false, not}
+use mathlib.Core.Bool.{Bool, true, false, not, _&&_}
 use mathlib.Core.List.{List}
 use Prim.Native.Nat.{ℕ, _+_, _-_, _*_}
 use lib.ListN.{getD}
-use lib.Dec.{ltb}
+use lib.Dec.{leb, ltb}
 use lib.Ieee.{Float, nan}
 use Rattle.arrays.specs.Choice.{if_then_else_}
 use Rattle.arrays.specs.Update.{update}
@@ -30,7 +31,7 @@ use Rattle.floats.specs.Operations.{_⊕_, _⊗_, 0f, −1f}
 use Rattle.definitions.specs.Number.{isZero, factor}
 use Rattle.definitions.specs.declared.Scalar.{Scalar}
 use Rattle.definitions.specs.Storage.{opTriangle}
-use Rattle.definitions.specs.Element.{divided, solvesUp}
+use Rattle.definitions.specs.Element.{divided, byZero, solvesUp}
 use Rattle.definitions.specs.declared.Side.{Side}
 use Rattle.definitions.specs.declared.Transpose.{Transpose}
 use Rattle.definitions.specs.declared.Triangle.{Triangle}
@@ -93,6 +94,9 @@ blockValue left down n diag T s q = solution nan (solveTerm left down n T) (solv
 
 unfoldable pub packedValue : Bool → Bool → ℕ → Diagonal → Matrix → List Float → (ℕ → Float) → ℕ → Float
 packedValue left down n diag D v s q = solution nan (packedTerm left down n v) (solveEnd diag down n D) (λ q. s (turn down n q)) q
+
+unfoldable pub zeroAmong : Bool → ℕ → Diagonal → Matrix → ℕ → ℕ → ℕ → Bool
+zeroAmong down m diag T p e i = (leb p (turn down m i) && ltb (turn down m i) e) && byZero diag (T i i)
 
 unfoldable pub goesDown : Side → Transpose → Triangle → Bool
 goesDown side t uplo = not (solvesUp side (opTriangle t uplo))

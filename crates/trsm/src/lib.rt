@@ -1,16 +1,19 @@
-// TRSM: the update of one strip. The unknowns are solved in order: a block of them, and then its terms in the sums of all that are left.
+// TRSM: the update of one strip. The unknowns are solved in order: a block of them, and then its terms in the sums of all that are left. Each function that solves
+// hands back the lowest index at which the diagonal is zero, or one past the last if there is none.
 ghost use mathlib.Core.Path.{_≡_};
-ghost use mathlib.Core.Bool.{true, false};
+ghost use mathlib.Core.Bool.{true, false, not, _&&_};
 ghost use mathlib.Core.List.{List};
 ghost use Prim.Native.Nat.{ℕ, _+_, _*_, _≤_, _<_};
 ghost use lib.ListN.{length};
 ghost use lib.Ieee.{Float};
 ghost use Rattle.arrays.specs.Choice.{if_then_else_};
 ghost use Rattle.arrays.specs.Update.{update, below};
+ghost use Rattle.arrays.specs.Search as Search;
+ghost use Rattle.arrays.specs.Search.{Lowest};
 ghost use Rattle.floats.specs.Array.{at};
 ghost use Rattle.definitions.specs.Number.{isZero};
 ghost use Rattle.definitions.specs.Call.{bySide, extent};
-ghost use Rattle.definitions.specs.Element.{divided, StripOf};
+ghost use Rattle.definitions.specs.Element.{divided, byZero, zeroOf, StripOf};
 ghost use Rattle.definitions.specs.declared.Diagonal.{Diagonal as DiagonalOf};
 ghost use Rattle.definitions.specs.declared.Routine.the-variants.{Trsm};
 ghost use Rattle.definitions.proofs.Fits.{Fits};
@@ -20,7 +23,7 @@ ghost use Rattle.blocks.specs.Terms.{packed};
 ghost use Rattle.kernel.specs.Product.{turn};
 ghost use Rattle.forms.specs.Forms.{opForm};
 ghost use Rattle.lines.specs.Lines.{cell, grid, coefficient, Room};
-ghost use Rattle.trsm.specs.Solve.{first, ordered, front, valueFactor, matrixFactor, blockValue, packedValue, lineValue, Step};
+ghost use Rattle.trsm.specs.Solve.{first, ordered, front, valueFactor, matrixFactor, blockValue, packedValue, lineValue, zeroAmong, Step};
 use blocks::block;
 use blocks::pass;
 use definitions::Call;
@@ -121,7 +124,14 @@ fn matrix_factors(
     pass::scale(v, 64, n, n, -1.0);
 }
 
-// One unknown of all lines: the terms of the j before it, and then the division by a[k], unless the diagonal is unit.
+// The index i if it was found and is below r, else r.
+fn lower(r: usize, found: bool, i: usize) -> usize
+    ensures { λ x. ⌜ x ≡ Search.lower r found i ⌝ }
+{
+    if found & (i < r) { i } else { r }
+}
+
+// One unknown of all lines: the terms of the j before it, and then the division by a[k], unless the diagonal is unit. It hands back whether that is by zero.
 fn solve_unknown(
     diag: Diagonal,
     s: &mut [f64],
@@ -131,14 +141,21 @@ fn solve_unknown(
     v: &[f64],
     a: &[f64],
     k: usize,
-)
+) -> bool
     requires { ⌜ (lines ≤ length (now s)) × (lines ≤ 64) × (j * 64 + lines ≤ length (now u) + 64) × (j ≤ length (now v)) × (k < length (now a)) ⌝ }
-    ensures { λ _. ⌜ now (s .exit) ≡ update (below lines (λ l e. divided diag (packed j (now (u .entry)) (now (v .entry)) l 0 e) (at (now (a .entry)) k))) (now (s .entry)) ⌝ }
+    ensures { λ r. ⌜ (now (s .exit) ≡ update (below lines (λ l e. divided diag (packed j (now (u .entry)) (now (v .entry)) l 0 e) (at (now (a .entry)) k))) (now (s .entry)))
+        × (r ≡ byZero diag (at (now (a .entry)) k)) ⌝ }
 {
-    block::column(s, lines, j, u, v);
     match diag {
-        Diagonal::Unit => {}
-        Diagonal::Nonunit => pass::divide_column(s, lines, a[k]),
+        Diagonal::Unit => {
+            block::column(s, lines, j, u, v);
+            false
+        }
+        Diagonal::Nonunit => {
+            let d = a[k];
+            block::column(s, lines, j, u, v);
+            pass::divide_column(s, lines, d)
+        }
     }
 }
 
@@ -167,11 +184,13 @@ fn solve_unknowns(
     lda: usize,
     u: &mut [f64],
     v: &[f64],
-)
+) -> usize
     requires { ⌜ (n ≤ 64) × (0 < lines) × (lines ≤ 64) × (4096 ≤ length (now u)) × (4096 ≤ length (now v)) × ((i : ℕ) → i < n → i * lda + i < length (now a)) ⌝ }
     requires { ⌜ Room false ld n lines (length (now s)) ⌝ }
-    ensures { λ _. ⌜ now (s .exit) ≡ update (ordered false down ld n lines (λ q l _. packedValue left down n diag (entryOf Plain (now (a .entry)) lda) (now (v .entry)) (λ i. at (now (s .entry)) (cell false ld i l)) q)) (now (s .entry)) ⌝ }
+    ensures { λ r. ⌜ (now (s .exit) ≡ update (ordered false down ld n lines (λ q l _. packedValue left down n diag (entryOf Plain (now (a .entry)) lda) (now (v .entry)) (λ i. at (now (s .entry)) (cell false ld i l)) q)) (now (s .entry)))
+        × Lowest (λ i. byZero diag (entryOf Plain (now (a .entry)) lda i i)) n r ⌝ }
 {
+    let mut zero = n;
     let mut j = 0;
     while j < n {
         let i = panels::turn_of(down, n, j);
@@ -179,10 +198,12 @@ fn solve_unknowns(
         let row = i * 64;
         let x = j * 64;
         let k = i * lda + i;
-        solve_unknown(diag, &mut s[to..], lines, j, u, &v[row..], a, k);
+        let found = solve_unknown(diag, &mut s[to..], lines, j, u, &v[row..], a, k);
         value_factors(left, &mut u[x..], lines, &s[to..]);
+        zero = lower(zero, found, i);
         j += 1;
     }
+    zero
 }
 
 // The unknowns of the diagonal block from element x0 on, n of them, whose lines stand across in s.
@@ -198,10 +219,11 @@ fn solve_across(
     lda: usize,
     x0: usize,
     n: usize,
-)
+) -> usize
     requires { ⌜ (0 < n) × (n ≤ 64) × (0 < lines) × (lines ≤ 64) × (x0 + n < 18446744073709551616) × ((i j : ℕ) → i < n → j < n → indexOf (opForm t) lda (x0 + i) (x0 + j) < length (now a)) ⌝ }
     requires { ⌜ Room false ld n lines (length (now s)) ⌝ }
-    ensures { λ _. ⌜ now (s .exit) ≡ update (ordered false down ld n lines (λ q l _. blockValue left down n diag (λ i j. entryOf (opForm t) (now (a .entry)) lda (x0 + i) (x0 + j)) (λ i. at (now (s .entry)) (cell false ld i l)) q)) (now (s .entry)) ⌝ }
+    ensures { λ r. ⌜ (now (s .exit) ≡ update (ordered false down ld n lines (λ q l _. blockValue left down n diag (λ i j. entryOf (opForm t) (now (a .entry)) lda (x0 + i) (x0 + j)) (λ i. at (now (s .entry)) (cell false ld i l)) q)) (now (s .entry)))
+        × Lowest (λ i. byZero diag (entryOf (opForm t) (now (a .entry)) lda (x0 + i) (x0 + i))) n r ⌝ }
 {
     let mut u = [0.0f64; 4096];
     let mut v = [0.0f64; 4096];
@@ -219,7 +241,7 @@ fn solve_across(
         lda,
         &mut u,
         &v,
-    );
+    )
 }
 
 // The unknowns from the p-th on, n of them, whose sums have the terms of all before the p-th: for side L in a copy of the block's lines.
@@ -236,22 +258,24 @@ fn solve_block(
     lda: usize,
     p: usize,
     n: usize,
-)
+) -> usize
     requires { ⌜ (0 < n) × (n ≤ 64) × (p + n ≤ m) × (0 < lines) × (lines ≤ 64) ⌝ }
     requires { ⌜ Room left ld m lines (length (now b)) ⌝ }
     requires { ⌜ ((i j : ℕ) → i < m → j < m → indexOf (opForm t) lda i j < length (now a)) ⌝ }
-    ensures { λ _. ⌜ Step left down ld m lines diag (entryOf (opForm t) (now (a .entry)) lda) (front (p + n) p) (front (p + n) (p + n)) (now (b .entry)) (now (b .exit)) ⌝ }
+    ensures { λ r. ⌜ Step left down ld m lines diag (entryOf (opForm t) (now (a .entry)) lda) (front (p + n) p) (front (p + n) (p + n)) (now (b .entry)) (now (b .exit))
+        × Lowest (zeroAmong down m diag (entryOf (opForm t) (now (a .entry)) lda) p (p + n)) m r ⌝ }
 {
     let x0 = least(down, m, p, n);
     if left {
         let mut s = [0.0f64; 4096];
         lines::take(left, false, &mut s, b, ld, m, lines, x0, n);
-        solve_across(left, down, diag, &mut s, 64, lines, t, a, lda, x0, n);
+        let z = solve_across(left, down, diag, &mut s, 64, lines, t, a, lda, x0, n);
         lines::put(left, false, b, ld, m, lines, x0, n, &s);
-        return;
+        return lower(m, z < n, x0 + z);
     }
     let to = x0 * ld;
-    solve_across(left, down, diag, &mut b[to..], ld, lines, t, a, lda, x0, n);
+    let z = solve_across(left, down, diag, &mut b[to..], ld, lines, t, a, lda, x0, n);
+    lower(m, z < n, x0 + z)
 }
 
 // All unknowns, by blocks of r.
@@ -267,19 +291,23 @@ fn solve(
     a: &[f64],
     lda: usize,
     r: usize,
-)
+) -> usize
     requires { ⌜ (0 < m) × (0 < lines) × (lines ≤ 64) × (0 < r) × (r ≤ 64) ⌝ }
     requires { ⌜ Room left ld m lines (length (now b)) ⌝ }
     requires { ⌜ ((i j : ℕ) → i < m → j < m → indexOf (opForm t) lda i j < length (now a)) ⌝ }
-    ensures { λ _. ⌜ Step left down ld m lines diag (entryOf (opForm t) (now (a .entry)) lda) (front m 0) (front m m) (now (b .entry)) (now (b .exit)) ⌝ }
+    ensures { λ x. ⌜ Step left down ld m lines diag (entryOf (opForm t) (now (a .entry)) lda) (front m 0) (front m m) (now (b .entry)) (now (b .exit))
+        × Lowest (λ i. byZero diag (entryOf (opForm t) (now (a .entry)) lda i i)) m x ⌝ }
 {
+    let mut zero = m;
     let mut q = 0;
     while q < m {
         let n = panels::smaller(r, m - q);
-        solve_block(left, down, diag, b, ld, m, lines, t, a, lda, q, n);
+        let z = solve_block(left, down, diag, b, ld, m, lines, t, a, lda, q, n);
         update_rest(left, down, b, ld, m, lines, t, a, lda, q, n, r);
+        zero = lower(zero, true, z);
         q += n;
     }
+    zero
 }
 
 // The first for side L, the second for side R.
@@ -303,27 +331,38 @@ fn solve_lines(
     a: &[f64],
     lda: usize,
     r: usize,
-)
+) -> usize
     requires { ⌜ (0 < m) × (0 < lines) × (lines ≤ 64) × (0 < r) × (r ≤ 64) ⌝ }
     requires { ⌜ Room left ld m lines (length (now b)) ⌝ }
     requires { ⌜ (isZero alpha ≡ false → (i j : ℕ) → i < m → j < m → indexOf (opForm t) lda i j < length (now a)) ⌝ }
-    ensures { λ _. ⌜ now (b .exit) ≡ update (grid left ld m lines (λ i l _. lineValue left down m diag alpha (entryOf (opForm t) (now (a .entry)) lda) (λ p. at (now (b .entry)) (cell left ld p l)) i)) (now (b .entry)) ⌝ }
+    ensures { λ x. ⌜ (now (b .exit) ≡ update (grid left ld m lines (λ i l _. lineValue left down m diag alpha (entryOf (opForm t) (now (a .entry)) lda) (λ p. at (now (b .entry)) (cell left ld p l)) i)) (now (b .entry)))
+        × Lowest (λ i. not (isZero alpha) && byZero diag (entryOf (opForm t) (now (a .entry)) lda i i)) m x ⌝ }
 {
     let rows = pick(left, m, lines);
     let cols = pick(left, lines, m);
     if alpha.is_zero() {
         pass::clear(b, ld, rows, cols);
-        return;
+        return m;
     }
     pass::scale(b, ld, rows, cols, alpha.factor());
-    solve(left, down, diag, b, ld, m, lines, t, a, lda, r);
+    solve(left, down, diag, b, ld, m, lines, t, a, lda, r)
 }
 
-// TRSM's strip of `lines` columns (side L) or rows (side R) from column or row `from` on: b is the part of B that starts there, and blocks are of r unknowns.
-pub fn trsm_strip(call: Call, a: &[f64], b: &mut [f64], from: usize, lines: usize, r: usize)
+// The index z below m as a number, or -1 if it is m.
+fn report(z: usize, m: usize) -> i32
+    requires { ⌜ (z < m → z < 2147483648) ⌝ }
+    ensures { λ x. ⌜ x ≡ Search.answer m z ⌝ }
+{
+    if z < m { z as i32 } else { -1 }
+}
+
+// TRSM's strip of `lines` columns (side L) or rows (side R) from column or row `from` on: b is the part of B that starts there, and blocks are of r unknowns. It
+// hands back the lowest diagonal index at which A is zero, or -1.
+pub fn trsm_strip(call: Call, a: &[f64], b: &mut [f64], from: usize, lines: usize, r: usize) -> i32
     requires { ⌜ ((lenc : ℕ) × Fits Trsm call (length (now a)) (bySide (call .side) (from * call .ldb) from + length (now b)) lenc) ⌝ }
     requires { ⌜ (0 < lines) × (lines ≤ 64) × (from + lines ≤ extent call) × (0 < r) × (r ≤ 64) ⌝ }
-    ensures { λ _. ⌜ ((b₀ : List Float) → StripOf call (now (a .entry)) b₀ from (from + lines) (bySide (call .side) (from * call .ldb) from) (now (b .entry)) (now (b .exit))) ⌝ }
+    ensures { λ x. ⌜ ((b₀ : List Float) → StripOf call (now (a .entry)) b₀ from (from + lines) (bySide (call .side) (from * call .ldb) from) (now (b .entry)) (now (b .exit)))
+        × (x ≡ zeroOf Trsm call (now (a .entry))) ⌝ }
 {
     let side = call.side;
     let t = call.transa;
@@ -336,7 +375,13 @@ pub fn trsm_strip(call: Call, a: &[f64], b: &mut [f64], from: usize, lines: usiz
     let ldb = call.ldb as usize;
     let low = forms::op_lower(t, uplo);
     match side {
-        Side::Left => solve_lines(true, !low, diag, alpha, b, ldb, m, lines, t, a, lda, r),
-        Side::Right => solve_lines(false, low, diag, alpha, b, ldb, n, lines, t, a, lda, r),
+        Side::Left => report(
+            solve_lines(true, !low, diag, alpha, b, ldb, m, lines, t, a, lda, r),
+            m,
+        ),
+        Side::Right => report(
+            solve_lines(false, low, diag, alpha, b, ldb, n, lines, t, a, lda, r),
+            n,
+        ),
     }
 }

@@ -11,10 +11,12 @@ type Output = *mut f64;
 #[rustfmt::skip]
 mod c {
     use super::{Input, Output};
+    use thamrunlek::raw::SolveEnd;
     pub type Gemm = unsafe extern "C" fn(i32, i32, i32, i32, i32, f64, Input, usize, i32, Input, usize, i32, f64, Output, usize, i32, i32, i32) -> i32;
     pub type Symm = unsafe extern "C" fn(i32, i32, i32, i32, f64, Input, usize, i32, Input, usize, i32, f64, Output, usize, i32, i32, i32) -> i32;
     pub type Syrk = unsafe extern "C" fn(i32, i32, i32, i32, f64, Input, usize, i32, f64, Output, usize, i32, i32, i32) -> i32;
     pub type Trmm = unsafe extern "C" fn(i32, i32, i32, i32, i32, i32, f64, Input, usize, i32, Output, usize, i32, i32, i32) -> i32;
+    pub type Trsm = unsafe extern "C" fn(i32, i32, i32, i32, i32, i32, f64, Input, usize, i32, Output, usize, i32, i32, i32) -> SolveEnd;
 }
 
 /// The six routines.
@@ -24,7 +26,7 @@ pub struct Own {
     syrk: c::Syrk,
     syr2k: c::Symm,
     trmm: c::Trmm,
-    trsm: c::Trmm,
+    trsm: c::Trsm,
 }
 
 /// A strip width and a block size.
@@ -98,7 +100,9 @@ impl Own {
                     (self.syr2k)(code(0), code(1), n, n, one, a, len, n, b, len, n, zero, c, len, n, w, r)
                 }
                 Routine::Trmm => (self.trmm)(code(0), code(1), code(2), code(3), n, n, one, a, len, n, c, len, n, w, r),
-                Routine::Trsm => (self.trsm)(code(0), code(1), code(2), code(3), n, n, one, a, len, n, c, len, n, w, r),
+                Routine::Trsm => {
+                    (self.trsm)(code(0), code(1), code(2), code(3), n, n, one, a, len, n, c, len, n, w, r).number
+                }
             }
         };
         seconds(calls, || assert_eq!(call(), 0))

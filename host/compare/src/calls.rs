@@ -1,6 +1,6 @@
 //! The calls of the comparison, routine by routine.
 
-use crate::cases::{extreme, large};
+use crate::cases::{extreme, large, singular};
 use crate::{accepted, cases, Case, Random};
 use reference::{Call, Routine};
 
@@ -12,13 +12,14 @@ pub type Each<'e> = &'e mut dyn FnMut(&str, u64, &dyn Fn(&mut Random) -> Case);
 pub type Calls = fn(Routine, Each);
 
 /// The calls of all tests.
-pub const ALL: [Calls; 8] = [
+pub const ALL: [Calls; 9] = [
     options_and_sizes,
     widths_and_block_sizes,
     random,
     around_multiples_of_64,
     zeros,
     beside_nans,
+    zeros_on_the_diagonal,
     without_rows,
     ends_of_the_range,
 ];
@@ -143,6 +144,24 @@ pub fn beside_nans(routine: Routine, each: Each) {
                 case
             });
         }
+    }
+}
+
+/// TRSM with zeros on the diagonal, for every block size and orders of up to several blocks; some calls are refused.
+pub fn zeros_on_the_diagonal(routine: Routine, each: Each) {
+    if routine != Routine::Trsm {
+        return;
+    }
+    let combinations = combinations(routine, &['L', 'R'], &['L', 'U'], &['N', 'T'], &['N', 'N', 'U']);
+    for index in cases(5 * 65 * combinations.len()) {
+        let (options, r) = (&combinations[index % combinations.len()], index / combinations.len() % 65);
+        each(&format!("zeros on the diagonal {routine:?}"), index as u64, &|random| {
+            let top = random.pick(&[8, 150]);
+            singular(random, top, |call| {
+                take_options(call, options);
+                call.r = r as i32;
+            })
+        });
     }
 }
 

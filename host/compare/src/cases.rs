@@ -190,6 +190,40 @@ pub fn large(random: &mut Random, routine: Routine, fix: impl FnOnce(&mut Call))
     fill(random, call, values)
 }
 
+/// A solve with A of order up to `top`, one in five refused. From some index on, the diagonal may have zeros of either
+/// sign, the least positive number and NaN. It has them too where a solve does not look: if it is unit, if α, m or n is
+/// zero, and if the call is refused. `fix` may set options, strip width and block size.
+pub fn singular(random: &mut Random, top: i32, fix: impl FnOnce(&mut Call)) -> Case {
+    let (order, others) = (random.from(0, top), random.pick(&[0, 1, 2, 5, 12, 20]));
+    let mut call = Call {
+        alpha: random.pick(&[0.0, -0.0, 1.0, 1.0, -2.0, 0.75, f64::NAN]),
+        w: random.pick(&[0, 1, 3, 7, 64]),
+        r: width(random),
+        ..options(random, Routine::Trsm)
+    };
+    fix(&mut call);
+    (call.m, call.n) = if call.right() { (others, order) } else { (order, others) };
+    let call = with_leading(random, call);
+    let Case { mut a, b, out, .. } = fill(random, call, Values::Tame);
+    let whole = needed(call.lda, order, order).max(a[0].len());
+    a.iter_mut().for_each(|a| a.resize(whole, 1.0));
+    if order > 0 {
+        let from = random.from(0, order - 1);
+        for _ in 0..random.pick(&[0, 1, 1, 2, 3, 9]) {
+            let place = random.from(from, order - 1) as usize * (call.lda as usize + 1);
+            let value = random.pick(&[0.0, 0.0, -0.0, -0.0, 5e-324, f64::NAN]);
+            a.iter_mut().for_each(|a| a[place] = value);
+        }
+    }
+    let call = match random.from(0, 14) {
+        0 => Call { w: -1, ..call },
+        1 => Call { r: -1, ..call },
+        2 => Call { ldb: -1, ..call },
+        _ => call,
+    };
+    Case { call, a, b, out }
+}
+
 /// The call reads entry (i, j) of A.
 fn reads_a(call: &Call, i: usize, j: usize) -> bool {
     match call.routine {

@@ -18,25 +18,29 @@ pub use cases::{accepted, Case};
 pub use random::{cases, seed, Random};
 pub use runs::{compare_runs, differ, library_run, Runner};
 pub use saved::Saved;
-pub use sheets::{long, of_call, sheet, SheetCase, UNANSWERED};
+pub use sheets::{long, of_call, sheet, solves, SheetCase, UNANSWERED};
 
-use reference::{Call, Routine};
+use reference::{Call, Done, Routine};
 
-/// An implementation: arguments, A, B and the output, which is C, or B for TRMM and TRSM; it gives a number.
-pub type Implementation<'f> = &'f dyn Fn(&Call, &[f64], &[f64], &mut [f64]) -> i32;
+/// An implementation: arguments, A, B and the output, which is C, or B for TRMM and TRSM.
+pub type Implementation<'f> = &'f dyn Fn(&Call, &[f64], &[f64], &mut [f64]) -> Done;
 
 /// The library.
-pub fn library(call: &Call, a: &[f64], b: &[f64], out: &mut [f64]) -> i32 {
-    use thamrunlek::raw;
+pub fn library(call: &Call, a: &[f64], b: &[f64], out: &mut [f64]) -> Done {
+    use thamrunlek::raw::{self, SolveEnd};
     let Call { side, uplo, transa, transb, diag, m, n, k, alpha, beta, lda, ldb, ldc, w, r, .. } = *call;
-    match call.routine {
+    let number = match call.routine {
         Routine::Gemm => raw::gemm(transa, transb, m, n, k, alpha, a, lda, b, ldb, beta, out, ldc, w, r),
         Routine::Symm => raw::symm(side, uplo, m, n, alpha, a, lda, b, ldb, beta, out, ldc, w, r),
         Routine::Syrk => raw::syrk(uplo, transa, n, k, alpha, a, lda, beta, out, ldc, w, r),
         Routine::Syr2k => raw::syr2k(uplo, transa, n, k, alpha, a, lda, b, ldb, beta, out, ldc, w, r),
         Routine::Trmm => raw::trmm(side, uplo, transa, diag, m, n, alpha, a, lda, out, ldb, w, r),
-        Routine::Trsm => raw::trsm(side, uplo, transa, diag, m, n, alpha, a, lda, out, ldb, w, r),
-    }
+        Routine::Trsm => {
+            let SolveEnd { number, zero } = raw::trsm(side, uplo, transa, diag, m, n, alpha, a, lda, out, ldb, w, r);
+            return Done { number, zero };
+        }
+    };
+    Done::of(number)
 }
 
 /// Entry (i, j) lies in triangle `uplo`, diagonal included.
@@ -66,17 +70,17 @@ fn changed(before: &[f64], after: &[f64]) -> Option<usize> {
     (0..before.len()).find(|&p| !equal(before[p], after[p]))
 }
 
-/// Makes the call with both implementations. Ok has their number; an error says in what they differ: in the number, in
+/// Makes the call with both implementations. Ok has what they hand back; an error says in what they differ: in that, in
 /// an element that the call writes (two NaNs are equal), or in one that the implementation under test was not to touch.
-pub fn compare(case: &Case, tested: Implementation, expected: Implementation) -> Result<i32, String> {
+pub fn compare(case: &Case, tested: Implementation, expected: Implementation) -> Result<Done, String> {
     let Case { call, a, b, out } = case;
     let (a_after, b_after, mut out_after) = (a[0].clone(), b[0].clone(), out[0].clone());
-    let number = tested(call, &a_after, &b_after, &mut out_after);
+    let done = tested(call, &a_after, &b_after, &mut out_after);
     let mut right = out[1].clone();
-    let right_number = expected(call, &a[1], &b[1], &mut right);
+    let right_done = expected(call, &a[1], &b[1], &mut right);
 
-    if number != right_number {
-        return Err(format!("the number is {number} and not {right_number}"));
+    if done != right_done {
+        return Err(format!("it hands back {done:?} and not {right_done:?}"));
     }
     for (name, before, after) in [("A", &a[0], &a_after), ("B", &b[0], &b_after)] {
         if let Some(p) = changed(before, after) {
@@ -86,7 +90,7 @@ pub fn compare(case: &Case, tested: Implementation, expected: Implementation) ->
     let ld = call.ld_of_output().max(1) as usize;
     for p in 0..out_after.len() {
         let (before, after, right) = (out[0][p], out_after[p], right[p]);
-        if number == 0 && writes(call, p % ld, p / ld) {
+        if done.number == 0 && writes(call, p % ld, p / ld) {
             if !equal_or_nans(after, right) {
                 return Err(format!("entry ({}, {}) is {after:e} and not {right:e}", p % ld, p / ld));
             }
@@ -94,12 +98,12 @@ pub fn compare(case: &Case, tested: Implementation, expected: Implementation) ->
             return Err(format!("element {p} of the output was {before:e} and is {after:e}"));
         }
     }
-    Ok(number)
+    Ok(done)
 }
 
 /// Compares the library with the reference on case number `index` of a test, made by `make` from a generator of its
 /// own. On a difference it panics with what is needed to make the case again.
-pub fn hold(test: &str, index: u64, make: impl FnOnce(&mut Random) -> Case) -> i32 {
+pub fn hold(test: &str, index: u64, make: impl FnOnce(&mut Random) -> Case) -> Done {
     let case = make(&mut Random::of(test, index));
     compare(&case, &library, &reference::direct).unwrap_or_else(|difference| {
         let lengths = (case.a[0].len(), case.b[0].len(), case.out[0].len());

@@ -10,7 +10,7 @@ pub type Runner<'f> = &'f dyn Fn(&[i32], &[f64], &mut Lent, i32, i32, u32) -> En
 pub fn library_run(sheet: &[i32], scalars: &[f64], lent: &mut Lent, p: i32, s: i32, budget: u32) -> End {
     let [x, y, z] = &mut lent.arrays;
     let end = thamrunlek::raw::run(sheet, scalars, x, y, z, &mut lent.answers, p, s, budget);
-    End { number: end.number, p: end.p, s: end.s, steps: end.steps }
+    End { number: end.number, p: end.p, s: end.s, steps: end.steps, zero: end.zero }
 }
 
 /// In what two lent states differ: an answer, or an element (two NaNs are equal).
@@ -34,14 +34,15 @@ fn stray(random: &mut Random, count: i32) -> (i32, i32) {
 }
 
 /// Makes runs with both runners, each from where the last one ended or, now and then, from a stray cursor, and looks
-/// after each of them for a difference in what they hand back and in what they leave. Ok has the numbers of the runs.
+/// after each of them for a difference in what they hand back and in what they leave. Ok has what the runs hand back
+/// and what the last one leaves.
 pub fn compare_runs(
     case: &SheetCase, random: &mut Random, tested: Runner, expected: Runner,
-) -> Result<(Vec<i32>, Lent), String> {
+) -> Result<(Vec<End>, Lent), String> {
     let SheetCase { sheet, scalars, lent } = case;
     let (mut left, mut right) = (lent.clone(), lent.clone());
     let count = sheet.last().map_or(0, |&count| count.min(9));
-    let (mut cursor, mut numbers) = ((0, 0), vec![]);
+    let (mut cursor, mut ends) = ((0, 0), vec![]);
     for _ in 0..random.from(1, 12) {
         let at = if random.once_in(5) { stray(random, count) } else { cursor };
         let few = random.from(0, 6) as u32;
@@ -54,10 +55,10 @@ pub fn compare_runs(
         if let Some(difference) = differ(&left, &right) {
             return Err(format!("after {budget} steps from {at:?} {difference}"));
         }
-        numbers.push(end.number);
+        ends.push(end);
         if end.number == 0 {
             cursor = (end.p, end.s);
         }
     }
-    Ok((numbers, left))
+    Ok((ends, left))
 }

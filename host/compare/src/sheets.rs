@@ -1,7 +1,7 @@
 //! Made-up call sheets and what their runs are lent.
 
-use crate::cases::{options, value, width, with_leading, Values, VALUES};
-use crate::Random;
+use crate::cases::{options, singular, value, width, with_leading, Values, VALUES};
+use crate::{Case, Random};
 use reference::machine::{Lent, RECORD};
 use reference::{needed, Call, Routine, ROUTINES};
 
@@ -70,9 +70,14 @@ fn record(random: &mut Random, call: &Call, lengths: &mut [usize; 3]) -> Record 
     let a = matrix(inputs[0], call.lda, call.stored_a());
     let has_b = words(call.routine).contains(&B) && !call.routine.in_place();
     let b = if has_b { matrix(inputs[1], call.ldb, call.stored_b()) } else { out };
+    of_matrices(random, call, [a, b, out])
+}
+
+/// The record of a call with these arrays, offsets and leading dimensions for A, B and C.
+fn of_matrices(random: &mut Random, call: &Call, [a, b, c]: [[i32; 3]; 3]) -> Record {
     let Call { side, uplo, transa, transb, diag, m, n, k, w, r, .. } = *call;
     let head = [call.routine as i32, side, uplo, transa, transb, diag, m, n, k];
-    let mut record: Record = [&head[..], &a, &b, &out, &[w, r]].concat().try_into().expect("all words");
+    let mut record: Record = [&head[..], &a, &b, &c, &[w, r]].concat().try_into().expect("all words");
     (0..RECORD).filter(|word| !words(call.routine).contains(word)).for_each(|word| record[word] = noise(random));
     record
 }
@@ -161,6 +166,36 @@ pub fn of_call(random: &mut Random, call: Call) -> SheetCase {
     let mut lengths = [0; 3];
     let record = record(random, &call, &mut lengths);
     lend(random, &[call], &[record], lengths, Values::Tame)
+}
+
+/// Up to five solves with zeros on the diagonal, some of them refused, and a sound sheet of them: the A of each stands
+/// behind the others' in one array, and its B in another. A last record clears the A of all.
+pub fn solves(random: &mut Random) -> (Vec<Case>, SheetCase) {
+    let solve = |random: &mut Random| {
+        let diag = random.pick(&['N', 'N', 'N', 'U']) as i32;
+        singular(random, 9, |call| call.diag = diag)
+    };
+    let solves: Vec<Case> = (0..random.from(1, 5)).map(|_| solve(random)).collect();
+    let of_a = random.from(0, 2);
+    let of_b = (of_a + random.from(1, 2)) % 3;
+    let (mut arrays, mut records) = ([(); 3].map(|_| vec![]), vec![]);
+    for Case { call, a, out, .. } in &solves {
+        let mut matrix = |array: i32, ld: i32, elements: &[f64]| {
+            let offset = arrays[array as usize].len() as i32;
+            arrays[array as usize].extend(elements);
+            [array, offset, ld]
+        };
+        let (a, b) = (matrix(of_a, call.lda, &a[0]), matrix(of_b, call.ldb, &out[0]));
+        records.push(of_matrices(random, call, [a, b, b]));
+    }
+    let rows = arrays[of_a as usize].len() as i32;
+    let ld = rows.max(1);
+    let clear = Call { m: rows, n: 1, lda: ld, ldb: ld, alpha: 0.0, ..Call::new(Routine::Trmm) };
+    records.push(of_matrices(random, &clear, [[of_b, 0, ld], [of_a, 0, ld], [of_a, 0, ld]]));
+    let calls: Vec<Call> = solves.iter().map(|case| case.call).chain([clear]).collect();
+    let mut case = lend(random, &calls, &records, [0; 3], Values::Tame);
+    case.lent.arrays = arrays;
+    (solves, case)
 }
 
 /// A sound sheet of forty good calls, in strips of one column or row.

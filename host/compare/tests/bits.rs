@@ -1,14 +1,14 @@
-//! The library and the reference agree bit for bit on accepted calls.
+//! The library and the reference agree bit for bit on accepted calls, and on what a solve reports.
 
 use compare::calls::{self, Calls};
 use compare::hold;
-use reference::ROUTINES;
+use reference::{Routine, ROUTINES};
 
 /// Makes the calls of a test for all routines, and expects each to be accepted and to have the reference's bits.
 fn agree(calls: Calls) {
     for routine in ROUTINES {
         calls(routine, &mut |test, index, make| {
-            assert_eq!(hold(test, index, make), 0, "{test}, case {index} is refused");
+            assert_eq!(hold(test, index, make).number, 0, "{test}, case {index} is refused");
         });
     }
 }
@@ -41,4 +41,12 @@ fn a_strip_width_or_block_size_of_0() {
 #[test]
 fn a_triangle_beside_nans() {
     agree(calls::beside_nans);
+}
+
+/// Some of these calls are refused.
+#[test]
+fn zeros_on_the_diagonal() {
+    calls::zeros_on_the_diagonal(Routine::Trsm, &mut |test, index, make| {
+        hold(test, index, make);
+    });
 }

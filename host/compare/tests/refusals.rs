@@ -1,7 +1,8 @@
-//! The library refuses what documents 01 and 02 refuse, with their numbers and in their order, and nothing else.
+//! The library refuses what documents 01 and 02 refuse, with their numbers and in their order, and nothing else; and a
+//! refused solve reports no zero.
 
 use compare::{accepted, calls, compare, hold, library, Case, Random};
-use reference::{direct, needed, Call, Routine, ROUTINES};
+use reference::{direct, needed, Call, Done, Routine, ROUTINES};
 use std::collections::BTreeSet;
 
 #[derive(Clone, Copy, Debug, PartialEq)]
@@ -47,10 +48,14 @@ fn arguments(routine: Routine) -> Vec<(i32, Argument)> {
     arguments
 }
 
-/// An accepted call in which every argument is tested.
+/// An accepted call in which every argument is tested. The A of a solve has a zero on the diagonal.
 fn sound(random: &mut Random, routine: Routine) -> Case {
     let (m, n, k) = (random.from(1, 6), random.from(1, 6), random.from(1, 6));
-    accepted(random, routine, |call| *call = Call { m, n, k, alpha: 1.5, ..*call })
+    let mut case = accepted(random, routine, |call| *call = Call { m, n, k, alpha: 1.5, ..*call });
+    if routine == Routine::Trsm {
+        case.a.iter_mut().for_each(|a| a[0] = 0.0);
+    }
+    case
 }
 
 /// A bad leading dimension for so many rows.
@@ -91,15 +96,15 @@ fn spoil(random: &mut Random, case: &mut Case, was: &Call, argument: Argument) {
     }
 }
 
-/// A sound case with these arguments spoiled gives the number of the first.
+/// A sound case with these arguments spoiled gives the number of the first, and no zero.
 fn refused(test: &str, index: u64, routine: Routine, bad: &[(i32, Argument)]) {
-    let number = hold(test, index, |random| {
+    let done = hold(test, index, |random| {
         let mut case = sound(random, routine);
         let was = case.call;
         bad.iter().for_each(|&(_, argument)| spoil(random, &mut case, &was, argument));
         case
     });
-    assert_eq!(number, bad[0].0, "{routine:?} with bad {bad:?}");
+    assert_eq!(done, Done::of(bad[0].0), "{routine:?} with bad {bad:?}");
 }
 
 #[test]
@@ -161,7 +166,8 @@ fn every_code_is_accepted_or_refused_as_it_should_be() {
                 });
                 let good = u8::try_from(code).is_ok_and(|code| letters.contains(code as char));
                 let expected = if good { 0 } else { number };
-                assert_eq!(compare(&case, &library, &direct), Ok(expected), "{routine:?}, {argument:?} {code}");
+                let number = compare(&case, &library, &direct).map(|done| done.number);
+                assert_eq!(number, Ok(expected), "{routine:?}, {argument:?} {code}");
             }
         }
     }
@@ -172,7 +178,7 @@ fn numbers_from_the_ends_of_their_range() {
     for routine in ROUTINES {
         let mut accepted = 0;
         calls::ends_of_the_range(routine, &mut |test, index, make| {
-            accepted += (hold(test, index, make) == 0) as i32;
+            accepted += (hold(test, index, make).number == 0) as i32;
         });
         assert!(accepted > 500, "{routine:?}: {accepted}");
     }
@@ -193,7 +199,7 @@ fn a_leading_dimension_is_good_from_1_on() {
             };
             let bad = arguments(routine).into_iter().find(|&(_, argument)| is_zero(argument));
             let expected = bad.map_or(0, |(number, _)| number);
-            assert_eq!(hold(test, index, make), expected, "{call:?}");
+            assert_eq!(hold(test, index, make).number, expected, "{call:?}");
             numbers.insert(expected);
         });
         let of_leading = |&(_, argument): &(i32, Argument)| matches!(argument, Lda | Ldb | Ldc);
@@ -208,14 +214,14 @@ fn a_width_is_good_from_0_to_64() {
         for w in (-70..=140).chain([i32::MIN, i32::MAX]) {
             for (index, other) in [0, 1, 64].into_iter().enumerate() {
                 let expected = if (0..=64).contains(&w) { 0 } else { 30 };
-                let number = hold("widths", index as u64, |random| {
+                let done = hold("widths", index as u64, |random| {
                     accepted(random, routine, |call| (call.w, call.r) = (w, other))
                 });
-                assert_eq!(number, expected, "{routine:?}, w {w}");
-                let number = hold("block sizes", index as u64, |random| {
+                assert_eq!(done.number, expected, "{routine:?}, w {w}");
+                let done = hold("block sizes", index as u64, |random| {
                     accepted(random, routine, |call| (call.w, call.r) = (other, w))
                 });
-                assert_eq!(number, expected, "{routine:?}, r {w}");
+                assert_eq!(done.number, expected, "{routine:?}, r {w}");
             }
         }
     }

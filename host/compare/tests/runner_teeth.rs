@@ -1,16 +1,21 @@
 //! The comparison of runners can fail: each of these plausible and false runners is told apart from the plain machine.
 
-use compare::{calls, compare_runs, of_call, sheet, Random, Runner};
+use compare::{calls, compare_runs, of_call, sheet, solves, Random, Runner, SheetCase};
 use reference::machine::{run, trailer, End, Lent, RECORD};
 use reference::ROUTINES;
 
-/// The first of 2,000 made-up sheets on which the runner differs from the plain machine.
-fn told_apart(wrong: Runner) -> Option<u64> {
+/// The first of 2,000 sheets made up by `make` on which the runner differs from the plain machine.
+fn told_apart_by(make: fn(&mut Random) -> SheetCase, wrong: Runner) -> Option<u64> {
     (0..2000).find(|&index| {
         let mut random = Random::of("runner teeth", index);
-        let case = sheet(&mut random);
+        let case = make(&mut random);
         compare_runs(&case, &mut random, wrong, &run).is_err()
     })
+}
+
+/// The first sheet of any kind.
+fn told_apart(wrong: Runner) -> Option<u64> {
+    told_apart_by(sheet, wrong)
 }
 
 /// The count of a sheet's records, 0 if its trailer is bad.
@@ -27,6 +32,15 @@ fn with_records(sheet: &[i32], change: impl Fn(&mut [i32])) -> Vec<i32> {
     sheet
 }
 
+/// The first of two reports.
+fn earlier(report: i32, next: i32) -> i32 {
+    if report == -1 {
+        next
+    } else {
+        report
+    }
+}
+
 /// A runner that makes its steps one by one: each by `step`, from a cursor that is not at the end.
 fn stepwise(
     step: impl Fn(&[i32], &[f64], &mut Lent, i32, i32) -> End,
@@ -34,7 +48,8 @@ fn stepwise(
     move |sheet, scalars, lent, p, s, budget| {
         let mut end = run(sheet, scalars, lent, p, s, 0);
         while end.number == 0 && end.steps < budget && end.p < count(sheet) {
-            end = End { steps: end.steps + 1, ..step(sheet, scalars, lent, end.p, end.s) };
+            let next = step(sheet, scalars, lent, end.p, end.s);
+            end = End { steps: end.steps + 1, zero: earlier(end.zero, next.zero), ..next };
         }
         end
     }
@@ -194,4 +209,79 @@ fn a_call_taken_up_at_its_first_strip() {
         end
     };
     assert!(told_apart(&wrong).is_some());
+}
+
+/// Record p is a solve with a zero on the diagonal, as the arrays stand.
+fn has_zero(sheet: &[i32], scalars: &[f64], lent: &Lent, p: i32) -> bool {
+    run(sheet, scalars, &mut lent.clone(), p, 0, u32::MAX).zero == p
+}
+
+/// The first sheet of solves.
+fn told_apart_by_solves(wrong: Runner) -> Option<u64> {
+    told_apart_by(|random| solves(random).1, wrong)
+}
+
+#[test]
+fn a_solve_that_counts_at_another_strip_than_its_last() {
+    let counting = |counts: fn(i32, &End) -> bool| {
+        stepwise(move |sheet, scalars, lent, p, s| {
+            let end = run(sheet, scalars, lent, p, s, 1);
+            End { zero: if counts(s, &end) && has_zero(sheet, scalars, lent, p) { p } else { -1 }, ..end }
+        })
+    };
+    assert!(told_apart_by_solves(&counting(|s, _| s == 0)).is_some());
+    assert!(told_apart_by_solves(&counting(|_, _| true)).is_some());
+    assert_eq!(told_apart_by_solves(&counting(|_, end| end.s == 0)), None);
+}
+
+#[test]
+fn a_refused_record_that_counts() {
+    let wrong = stepwise(|sheet, scalars, lent, p, s| {
+        let end = run(sheet, scalars, lent, p, s, 1);
+        let accept = |record: &mut [i32]| (record[18], record[19]) = (record[18].max(0), record[19].max(0));
+        let zero = end.s == 0 && has_zero(&with_records(sheet, accept), scalars, lent, p);
+        End { zero: if zero { p } else { -1 }, ..end }
+    });
+    assert!(told_apart_by_solves(&wrong).is_some());
+}
+
+/// A runner that looks for zeros in the arrays before its run, or after it: at these records, by the one that it begins
+/// with and the one that it ends at.
+fn looking(after: bool, records: fn(i32, i32) -> Vec<i32>) -> impl Fn(&[i32], &[f64], &mut Lent, i32, i32, u32) -> End {
+    move |sheet, scalars, lent, p, s, budget| {
+        let before = lent.clone();
+        let end = run(sheet, scalars, lent, p, s, budget);
+        let records = if end.number == 0 { records(p, end.p) } else { vec![] };
+        let seen = if after { lent } else { &before };
+        let first = records.into_iter().find(|&p| has_zero(sheet, scalars, seen, p));
+        End { zero: first.unwrap_or(-1), ..end }
+    }
+}
+
+#[test]
+fn another_record_than_the_first_that_the_run_finishes() {
+    let last = looking(false, |from, to| (from..to).rev().collect());
+    assert!(told_apart_by_solves(&last).is_some());
+    let of_earlier_runs = looking(false, |_, to| (0..to).collect());
+    assert!(told_apart_by_solves(&of_earlier_runs).is_some());
+    let unfinished = looking(false, |from, to| (from..=to).collect());
+    assert!(told_apart_by_solves(&unfinished).is_some());
+    let right = looking(false, |from, to| (from..to).collect());
+    assert_eq!(told_apart_by_solves(&right), None);
+}
+
+#[test]
+fn a_diagonal_as_it_is_after_the_run() {
+    let wrong = looking(true, |from, to| (from..to).collect());
+    assert!(told_apart_by_solves(&wrong).is_some());
+}
+
+#[test]
+fn a_report_from_a_refused_run() {
+    let wrong = |sheet: &[i32], scalars: &[f64], lent: &mut Lent, p, s, budget| {
+        let end = run(sheet, scalars, lent, p, s, budget);
+        let zero = end.number != 0 && has_zero(sheet, scalars, lent, p);
+        End { zero: if zero { p } else { end.zero }, ..end }
+    };
+    assert!(told_apart_by_solves(&wrong).is_some());
 }

@@ -1,7 +1,8 @@
 //! The comparison can fail: each of these plausible and false implementations is told apart from the reference.
 
-use compare::{accepted, calls, compare, Implementation, Random};
-use reference::{check, direct, width, Call, Routine};
+use compare::calls::{self, Calls};
+use compare::{accepted, compare, Implementation, Random};
+use reference::{check, direct, width, zero, Call, Done, Routine};
 
 /// The first of 2,000 made-up calls on which the implementation differs from the reference.
 fn told_apart(routine: Routine, wrong: Implementation) -> Option<u64> {
@@ -9,6 +10,15 @@ fn told_apart(routine: Routine, wrong: Implementation) -> Option<u64> {
         let case = accepted(&mut Random::of("teeth", index), routine, |_| ());
         compare(&case, wrong, &direct).is_err()
     })
+}
+
+/// One of these calls of the routine tells the implementation apart from the reference.
+fn told_apart_by(calls: Calls, routine: Routine, wrong: Implementation) -> bool {
+    let mut apart = false;
+    calls(routine, &mut |test, index, make| {
+        apart = apart || compare(&make(&mut Random::of(test, index)), wrong, &direct).is_err();
+    });
+    apart
 }
 
 fn entry(x: &[f64], ld: i32, i: usize, j: usize) -> f64 {
@@ -41,11 +51,11 @@ fn add(call: &Call, e: f64, (u, v): (f64, f64)) -> f64 {
 type Element = fn(&Call, f64, &[(f64, f64)]) -> f64;
 
 /// GEMM with the elements worked out by `element`.
-fn gemm(element: Element) -> impl Fn(&Call, &[f64], &[f64], &mut [f64]) -> i32 {
+fn gemm(element: Element) -> impl Fn(&Call, &[f64], &[f64], &mut [f64]) -> Done {
     move |call, a, b, c| {
         let number = check(call, a.len(), b.len(), c.len());
         if number != 0 {
-            return number;
+            return Done::of(number);
         }
         let terms = if call.start_only() { 0 } else { call.k as usize };
         for j in 0..call.n as usize {
@@ -57,7 +67,7 @@ fn gemm(element: Element) -> impl Fn(&Call, &[f64], &[f64], &mut [f64]) -> i32 {
                 c[place] = element(call, c[place], &factors);
             }
         }
-        0
+        Done::of(0)
     }
 }
 
@@ -125,27 +135,27 @@ fn wrong_writes() {
         assert!(told_apart(routine, &writes_nothing).is_some());
 
         let fills_zeros = |call: &Call, a: &[f64], b: &[f64], out: &mut [f64]| {
-            let number = direct(call, a, b, out);
+            let done = direct(call, a, b, out);
             let (rows, cols) = call.shape_of_output();
-            clear(call, out, |i, j| number == 0 && i < rows as usize && j < cols as usize);
-            number
+            clear(call, out, |i, j| done.number == 0 && i < rows as usize && j < cols as usize);
+            done
         };
         assert!(told_apart(routine, &fills_zeros).is_some());
 
         let writes_padding = |call: &Call, a: &[f64], b: &[f64], out: &mut [f64]| {
-            let number = direct(call, a, b, out);
+            let done = direct(call, a, b, out);
             let rows = call.shape_of_output().0;
-            clear(call, out, |i, j| number == 0 && i == rows as usize && j == 0);
-            number
+            clear(call, out, |i, j| done.number == 0 && i == rows as usize && j == 0);
+            done
         };
         assert!(told_apart(routine, &writes_padding).is_some());
 
         let refuses_empty = |call: &Call, a: &[f64], b: &[f64], out: &mut [f64]| {
-            let number = direct(call, a, b, out);
-            if number == 0 && call.empty() {
-                3
+            let done = direct(call, a, b, out);
+            if done.number == 0 && call.empty() {
+                Done::of(3)
             } else {
-                number
+                done
             }
         };
         assert!(told_apart(routine, &refuses_empty).is_some());
@@ -157,10 +167,10 @@ fn wrong_writes() {
 fn other_triangle_cleared() {
     for routine in [Routine::Syrk, Routine::Syr2k] {
         let wrong = |call: &Call, a: &[f64], b: &[f64], c: &mut [f64]| {
-            let number = direct(call, a, b, c);
+            let done = direct(call, a, b, c);
             let n = call.n as usize;
-            clear(call, c, |i, j| number == 0 && i < n && j < n && i != j && (i < j) != call.upper());
-            number
+            clear(call, c, |i, j| done.number == 0 && i < n && j < n && i != j && (i < j) != call.upper());
+            done
         };
         assert!(told_apart(routine, &wrong).is_some());
     }
@@ -171,10 +181,10 @@ fn diagonal_left_out() {
     for routine in [Routine::Syrk, Routine::Syr2k] {
         let wrong = |call: &Call, a: &[f64], b: &[f64], c: &mut [f64]| {
             let old = c.to_vec();
-            let number = direct(call, a, b, c);
+            let done = direct(call, a, b, c);
             let ld = call.ldc as usize;
             (0..c.len()).filter(|p| p % ld == p / ld).for_each(|p| c[p] = old[p]);
-            number
+            done
         };
         assert!(told_apart(routine, &wrong).is_some());
     }
@@ -223,11 +233,7 @@ fn wrong_leading_dimensions() {
             let call = with_leading(call, |ld, rows| if rows == 0 { ld.max(1) } else { ld });
             direct(&call, a, b, out)
         };
-        let mut apart = false;
-        calls::without_rows(routine, &mut |test, index, make| {
-            apart |= compare(&make(&mut Random::of(test, index)), &zero_without_rows, &direct).is_err();
-        });
-        assert!(apart);
+        assert!(told_apart_by(calls::without_rows, routine, &zero_without_rows));
     }
 }
 
@@ -274,7 +280,7 @@ fn syr2k_that_alternates_panels() {
             }
             c[place] = e;
         }
-        0
+        Done::of(0)
     };
     assert!(told_apart(Routine::Syr2k, &wrong).is_some());
 }
@@ -286,7 +292,7 @@ fn syr2k_with_its_products_swapped() {
         if number == 0 {
             direct(&Call { lda: call.ldb, ldb: call.lda, ..*call }, b, a, c);
         }
-        number
+        Done::of(number)
     };
     assert!(told_apart(Routine::Syr2k, &wrong).is_some());
 }
@@ -308,7 +314,7 @@ fn trsm_with_ascending_terms_in_a_backward_solve() {
                 out[j * call.ldb as usize + i] = e / diagonal;
             }
         }
-        0
+        Done { number: 0, zero: zero(call, a) }
     };
     assert!(told_apart(Routine::Trsm, &wrong).is_some());
 }
@@ -327,7 +333,7 @@ fn trmm_that_reads_what_it_has_written() {
                 out[j * call.ldb as usize + i] = e;
             }
         }
-        0
+        Done::of(0)
     };
     assert!(told_apart(Routine::Trmm, &wrong).is_some());
 }
@@ -347,7 +353,100 @@ fn trsm_that_multiplies_by_the_reciprocal() {
                 out[j * call.ldb as usize + i] = e * (1.0 / entry(a, call.lda, i, i));
             }
         }
-        0
+        Done { number: 0, zero: zero(call, a) }
     };
     assert!(told_apart(Routine::Trsm, &wrong).is_some());
+}
+
+/// Whether a solve with this number looks for a zero.
+type Looks = fn(&Call, i32) -> bool;
+
+/// The index that a solve reports, from the diagonal of A.
+type Report = fn(&Call, &[f64]) -> Option<usize>;
+
+/// TRSM with another report.
+fn trsm(looks: Looks, report: Report) -> impl Fn(&Call, &[f64], &[f64], &mut [f64]) -> Done {
+    move |call, a, b, out| {
+        let number = direct(call, a, b, out).number;
+        let order = call.stored_a().0 as usize;
+        let diagonal: Vec<f64> = a.iter().copied().step_by(call.lda as usize + 1).take(order).collect();
+        let zero = if looks(call, number) { report(call, &diagonal) } else { None };
+        Done { number, zero: zero.map_or(-1, |index| index as i32) }
+    }
+}
+
+/// The call is accepted and divides.
+fn divides(call: &Call, number: i32) -> bool {
+    number == 0 && !call.unit() && call.alpha != 0.0 && !call.empty()
+}
+
+fn lowest(_: &Call, diagonal: &[f64]) -> Option<usize> {
+    diagonal.iter().position(|&x| x == 0.0)
+}
+
+fn highest(_: &Call, diagonal: &[f64]) -> Option<usize> {
+    diagonal.iter().rposition(|&x| x == 0.0)
+}
+
+fn first_solved(call: &Call, diagonal: &[f64]) -> Option<usize> {
+    let up = call.right() == (call.upper() != call.transposed_a());
+    if up {
+        lowest(call, diagonal)
+    } else {
+        highest(call, diagonal)
+    }
+}
+
+fn lowest_of_the_last_block(call: &Call, diagonal: &[f64]) -> Option<usize> {
+    let block = width(call.r) as usize;
+    let first = highest(call, diagonal)? / block * block;
+    lowest(call, &diagonal[first..]).map(|index| first + index)
+}
+
+fn lowest_in_its_block(call: &Call, diagonal: &[f64]) -> Option<usize> {
+    lowest(call, diagonal).map(|index| index % width(call.r) as usize)
+}
+
+fn counted_from_1(call: &Call, diagonal: &[f64]) -> Option<usize> {
+    lowest(call, diagonal).map(|index| index + 1)
+}
+
+fn positive_zeros(_: &Call, diagonal: &[f64]) -> Option<usize> {
+    diagonal.iter().position(|&x| x.to_bits() == 0)
+}
+
+fn subnormal_numbers_too(_: &Call, diagonal: &[f64]) -> Option<usize> {
+    diagonal.iter().position(|x| x.abs() < f64::MIN_POSITIVE)
+}
+
+fn nans_too(_: &Call, diagonal: &[f64]) -> Option<usize> {
+    diagonal.iter().position(|&x| x == 0.0 || x.is_nan())
+}
+
+#[test]
+fn wrong_reports() {
+    let told_apart = |looks, report| told_apart_by(calls::zeros_on_the_diagonal, Routine::Trsm, &trsm(looks, report));
+    let wrong: [(&str, Report); 8] = [
+        ("the highest", highest),
+        ("the first in the order of solving", first_solved),
+        ("the lowest of the last block", lowest_of_the_last_block),
+        ("the lowest in its block", lowest_in_its_block),
+        ("counted from 1", counted_from_1),
+        ("+0.0 alone", positive_zeros),
+        ("subnormal numbers too", subnormal_numbers_too),
+        ("NaNs too", nans_too),
+    ];
+    for (name, report) in wrong {
+        assert!(told_apart(divides, report), "{name}");
+    }
+    let wrong: [(&str, Looks); 4] = [
+        ("a unit diagonal", |call, number| number == 0 && call.alpha != 0.0 && !call.empty()),
+        ("alpha zero", |call, number| number == 0 && !call.unit() && !call.empty()),
+        ("m or n zero", |call, number| number == 0 && !call.unit() && call.alpha != 0.0),
+        ("a refused call", |call, _| !call.unit() && call.alpha != 0.0 && !call.empty()),
+    ];
+    for (name, looks) in wrong {
+        assert!(told_apart(looks, lowest), "{name}");
+    }
+    assert!(!told_apart(divides, lowest));
 }

@@ -1,4 +1,5 @@
-//! The proved calls on pointers, with the arguments of the BLAS. Each gives 0 or the number of a bad argument.
+//! The proved calls on pointers, with the arguments of the BLAS. Each gives 0 or the number of a bad argument; a zero on
+//! the diagonal that a solve names has no place in the BLAS.
 
 use crate::blocks::blocks;
 use std::ptr::NonNull;
@@ -111,5 +112,5 @@ pub unsafe fn trsm(
     let a = Matrix::new(a, lda, square(side, m, n));
     let b = Matrix::new(b, ldb, (m, n));
     let Blocks { width, size } = blocks();
-    raw::tl_dtrsm(side, uplo, transa, diag, m, n, alpha, a.start, a.len, a.ld, b.start, b.len, b.ld, width, size)
+    raw::tl_dtrsm(side, uplo, transa, diag, m, n, alpha, a.start, a.len, a.ld, b.start, b.len, b.ld, width, size).number
 }

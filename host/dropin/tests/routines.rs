@@ -2,7 +2,7 @@
 //! the same matrices gives.
 
 use compare::{accepted, cases, compare, Implementation, Random};
-use reference::{Call, Routine, ROUTINES};
+use reference::{Call, Done, Routine, ROUTINES};
 use std::cell::Cell;
 use std::slice;
 use thamrunlek_blas::{cblas::*, fortran::*};
@@ -78,14 +78,21 @@ fn c(layout: i32, call: &Call, a: &[f64], b: &[f64], out: &mut [f64]) -> i32 {
     number()
 }
 
+/// The number of the reference.
+fn plain(call: &Call, a: &[f64], b: &[f64], out: &mut [f64]) -> i32 {
+    reference::direct(call, a, b, out).number
+}
+
 #[test]
 fn random_calls_have_the_bits_of_the_reference() {
-    let by_columns = |call: &Call, a: &[f64], b: &[f64], out: &mut [f64]| c(COLUMN_MAJOR, call, a, b, out);
+    let of_fortran = |call: &Call, a: &[f64], b: &[f64], out: &mut [f64]| Done::of(fortran(call, a, b, out));
+    let of_c = |call: &Call, a: &[f64], b: &[f64], out: &mut [f64]| Done::of(c(COLUMN_MAJOR, call, a, b, out));
+    let expected = |call: &Call, a: &[f64], b: &[f64], out: &mut [f64]| Done::of(plain(call, a, b, out));
     for routine in ROUTINES {
         for index in cases(2_000) {
             let case = accepted(&mut Random::of("drop-in", index as u64), routine, |_| ());
-            for tested in [&fortran as Implementation, &by_columns] {
-                assert_eq!(compare(&case, tested, &reference::direct), Ok(0), "case {index}: {:?}", case.call);
+            for tested in [&of_fortran as Implementation, &of_c] {
+                assert_eq!(compare(&case, tested, &expected), Ok(Done::of(0)), "case {index}: {:?}", case.call);
             }
         }
     }
@@ -117,7 +124,7 @@ fn a_call_by_rows_is_the_call_by_columns_of_the_same_matrices() {
             let (a, b, mut out) = (integers(), integers(), integers());
             let (a_rows, b_rows) = (by_rows(&a, call.stored_a()), by_rows(&b, call.stored_b()));
             let mut out_rows = by_rows(&out, call.shape_of_output());
-            assert_eq!(reference::direct(&call, &a, &b, &mut out), 0);
+            assert_eq!(plain(&call, &a, &b, &mut out), 0);
             assert_eq!(c(ROW_MAJOR, &tight(call, true), &a_rows, &b_rows, &mut out_rows), 0);
             assert_eq!(out_rows, by_rows(&out, call.shape_of_output()), "case {index}: {call:?}");
         }
@@ -142,7 +149,7 @@ fn parts_of_one_array() {
 
     let mut expected = before.clone();
     let c = &mut expected[beside + below..];
-    assert_eq!(reference::direct(&call, &before[below..], &before[beside..], c), 0);
+    assert_eq!(plain(&call, &before[below..], &before[beside..], c), 0);
     assert!(after.iter().zip(&expected).all(|(x, y)| x.to_bits() == y.to_bits()));
 }
 

@@ -28,6 +28,16 @@ static void need(int32_t refusal) {
     }
 }
 
+/* Ends the program if a solve was refused, or found a zero on the diagonal of the factor: nothing holds the unknown
+ * there. */
+static void need_solved(struct SolveEnd end) {
+    need(end.number);
+    if (end.zero >= 0) {
+        fprintf(stderr, "nothing holds %s: the frame is a mechanism\n", unknowns[end.zero]);
+        exit(EXIT_FAILURE);
+    }
+}
+
 /* Prints a matrix of four columns: each entry's row, column, value and bits. */
 static void print(const char *const *names, int rows, const double *values) {
     for (int p = 0; p < 4 * rows; p++) {
@@ -40,8 +50,8 @@ static void print(const char *const *names, int rows, const double *values) {
 int main(void) {
     double x[12] = {0}, m[24] = {0};
     need(tl_dgemm('N', 'N', 3, 4, 3, 1, loads, 9, 3, factors, 12, 3, 0, x, 12, 3, 0, 0));
-    need(tl_dtrsm('L', 'L', 'N', 'N', 3, 4, 1, factor, 9, 3, x, 12, 3, 0, 0));
-    need(tl_dtrsm('L', 'L', 'T', 'N', 3, 4, 1, factor, 9, 3, x, 12, 3, 0, 0));
+    need_solved(tl_dtrsm('L', 'L', 'N', 'N', 3, 4, 1, factor, 9, 3, x, 12, 3, 0, 0));
+    need_solved(tl_dtrsm('L', 'L', 'T', 'N', 3, 4, 1, factor, 9, 3, x, 12, 3, 0, 0));
     need(tl_dgemm('N', 'N', 6, 4, 3, 1, fixed_end_moments, 18, 6, factors, 12, 3, 0, m, 24, 6, 0, 0));
     need(tl_dgemm('N', 'N', 6, 4, 3, 1, end_stiffness, 18, 6, x, 12, 3, 1, m, 24, 6, 0, 0));
     print(unknowns, 3, x);

@@ -1,7 +1,8 @@
 //! The portal frame by direct calls in Rust. direct.c and direct.f90 do the same and print the same.
 
-use portal_frame::{direct, ENDS, UNKNOWNS};
-use thamrunlek::{Blocks, Refusal};
+use portal_frame::{direct, ENDS, FACTOR, UNKNOWNS};
+use std::process::ExitCode;
+use thamrunlek::Blocks;
 
 /// Prints a matrix of four columns: each entry's row, column, value and bits.
 fn print(rows: &[&str], values: &[f64]) {
@@ -10,9 +11,17 @@ fn print(rows: &[&str], values: &[f64]) {
     }
 }
 
-fn main() -> Result<(), Refusal> {
-    let response = direct::response(Blocks::default())?;
-    print(&UNKNOWNS, &response.displacements);
-    print(&ENDS, &response.moments);
-    Ok(())
+fn main() -> ExitCode {
+    match direct::response(&FACTOR, Blocks::default()) {
+        Ok(response) => {
+            print(&UNKNOWNS, &response.displacements);
+            print(&ENDS, &response.moments);
+            ExitCode::SUCCESS
+        }
+        // A refusal, or the unknown that nothing holds.
+        Err(failure) => {
+            eprintln!("{failure}");
+            ExitCode::FAILURE
+        }
+    }
 }

@@ -9,6 +9,9 @@
 pub mod direct;
 pub mod sheet;
 
+use std::{error, fmt};
+use thamrunlek::{Refusal, RunRefusal};
+
 /// The unknowns: sway, rotation of B, rotation of C.
 pub const UNKNOWNS: [&str; 3] = ["u", "phi B", "phi C"];
 /// The ends of the members, whose moments are wanted.
@@ -59,3 +62,43 @@ pub struct Response {
     /// The moments at the ends of the members, 6 by 4.
     pub moments: [f64; 24],
 }
+
+/// Why there is no response.
+#[derive(Clone, Copy, Debug, PartialEq, Eq)]
+pub enum Failure {
+    /// A direct call is refused.
+    Call(Refusal),
+    /// A run of the sheet is refused.
+    Run(RunRefusal),
+    /// Nothing holds this unknown: the frame is a mechanism.
+    Unheld(&'static str),
+    /// The solve of this record has a zero on the diagonal: the frame is a mechanism.
+    Record(i32),
+}
+
+impl From<Refusal> for Failure {
+    fn from(refusal: Refusal) -> Failure {
+        Failure::Call(refusal)
+    }
+}
+
+impl From<RunRefusal> for Failure {
+    fn from(refusal: RunRefusal) -> Failure {
+        Failure::Run(refusal)
+    }
+}
+
+impl fmt::Display for Failure {
+    fn fmt(&self, f: &mut fmt::Formatter) -> fmt::Result {
+        match self {
+            Failure::Call(refusal) => write!(f, "{refusal}"),
+            Failure::Run(refusal) => write!(f, "the sheet is refused with number {}: {refusal}", refusal.number()),
+            Failure::Unheld(unknown) => write!(f, "nothing holds {unknown}: the frame is a mechanism"),
+            Failure::Record(record) => {
+                write!(f, "record {record} solves with a zero on the diagonal: the frame is a mechanism")
+            }
+        }
+    }
+}
+
+impl error::Error for Failure {}

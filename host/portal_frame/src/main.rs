@@ -1,6 +1,6 @@
 //! Runs the portal frame's call sheet and prints displacements and end moments as a table.
 
-use portal_frame::{sheet, COMBINATIONS, ENDS, UNKNOWNS};
+use portal_frame::{sheet, COMBINATIONS, ENDS, FACTOR, UNKNOWNS};
 use std::process::ExitCode;
 
 const WIDTH: i32 = 3;
@@ -14,10 +14,10 @@ fn line(name: &str, unit: &str, values: impl Iterator<Item = f64>) {
 }
 
 fn main() -> ExitCode {
-    let finished = match sheet::response(WIDTH, BLOCK, BUDGET) {
+    let finished = match sheet::response(&FACTOR, WIDTH, BLOCK, BUDGET) {
         Ok(finished) => finished,
-        Err(refusal) => {
-            eprintln!("the sheet is refused with number {}: {refusal}", refusal.number());
+        Err(failure) => {
+            eprintln!("{failure}");
             return ExitCode::FAILURE;
         }
     };

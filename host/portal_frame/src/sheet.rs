@@ -1,10 +1,11 @@
 //! The frame as a call sheet.
 
 use crate::*;
-use thamrunlek::{run, Cursor, RunRefusal};
+use thamrunlek::{run, Cursor};
 
-/// The given matrices, which stand one behind the other in array X, and their first elements there.
-const GIVEN: [&[f64]; 5] = [&FACTOR, &END_STIFFNESS, &LOADS, &FIXED_END_MOMENTS, &FACTORS];
+/// The given matrices, which stand behind the factor of the stiffness in array X, and the first elements of all five
+/// there.
+const GIVEN: [&[f64]; 4] = [&END_STIFFNESS, &LOADS, &FIXED_END_MOMENTS, &FACTORS];
 const AT: [i32; 5] = [0, 9, 27, 36, 54];
 
 const GEMM: i32 = 1;
@@ -46,13 +47,17 @@ pub struct Finished {
     pub steps: Vec<u32>,
 }
 
-/// Runs the sheet with strips of w columns and blocks of r, at most `budget` steps at a time, which must not be 0.
-pub fn response(w: i32, r: i32, budget: u32) -> Result<Finished, RunRefusal> {
-    let mut given = GIVEN.concat();
+/// Runs the sheet with the factor of the stiffness, strips of w columns and blocks of r, at most `budget` steps at a
+/// time, which must not be 0.
+pub fn response(factor: &[f64; 9], w: i32, r: i32, budget: u32) -> Result<Finished, Failure> {
+    let mut given = [&factor[..], &GIVEN.concat()].concat();
     let (mut displacements, mut moments, mut answers) = ([0.0; 12], [0.0; 24], [-1; 5]);
     let (sheet, mut cursor, mut steps) = (sheet(w, r), Cursor::default(), vec![]);
     while cursor.record < 5 {
         let ran = run(&sheet, &SCALARS, &mut given, &mut displacements, &mut moments, &mut answers, cursor, budget)?;
+        if let Some(record) = ran.zero {
+            return Err(Failure::Record(record));
+        }
         cursor = ran.cursor;
         steps.push(ran.steps);
     }

@@ -13,6 +13,7 @@ mod loops;
 pub mod machine;
 
 pub use check::check;
+pub use loops::zero;
 
 /// The six routines, with their numbers in a call sheet.
 #[derive(Clone, Copy, Debug, PartialEq, Eq)]
@@ -230,14 +231,32 @@ fn stored(transposed: bool, rows: i32, cols: i32) -> (i32, i32) {
     }
 }
 
-/// A direct call: its number, 0 if it was accepted. `out` is C, or B for TRMM and TRSM, which do not look at `b`;
-/// neither does SYRK.
-pub fn direct(call: &Call, a: &[f64], b: &[f64], out: &mut [f64]) -> i32 {
+/// What a direct call hands back.
+#[derive(Clone, Copy, Debug, PartialEq, Eq)]
+pub struct Done {
+    /// 0 if the call was accepted, else its number
+    pub number: i32,
+    /// the lowest diagonal index at which the A of a solve is zero, or -1
+    pub zero: i32,
+}
+
+impl Done {
+    /// This number, and no zero.
+    pub fn of(number: i32) -> Done {
+        Done { number, zero: -1 }
+    }
+}
+
+/// A direct call. `out` is C, or B for TRMM and TRSM, which do not look at `b`; neither does SYRK.
+pub fn direct(call: &Call, a: &[f64], b: &[f64], out: &mut [f64]) -> Done {
     let number = check(call, a.len(), b.len(), out.len());
-    if number == 0 && !call.empty() {
+    if number != 0 {
+        return Done::of(number);
+    }
+    if !call.empty() {
         loops::strip(call, a, b, out, 0, call.extent() as usize);
     }
-    number
+    Done { number, zero: zero(call, a) }
 }
 
 #[cfg(test)]

@@ -1,4 +1,5 @@
-//! The values of the elements. Each operation is one f64 operation, rounded once; no term is skipped.
+//! The values of the elements, and the zero that a solve reports. Each operation is one f64 operation, rounded once; no
+//! term is skipped.
 
 use crate::{Call, Routine};
 
@@ -261,4 +262,19 @@ fn solve_row(call: &Call, a: &[f64], b: &mut [f64], i: usize) {
         }
         b[j * call.ldb as usize + i] = e;
     }
+}
+
+/// The lowest diagonal index at which the A of an accepted solve is zero (-0.0 is), or -1; it is -1 too with a unit
+/// diagonal, with α, m or n zero, and of a call that is no solve.
+pub fn zero(call: &Call, a: &[f64]) -> i32 {
+    if call.routine != Routine::Trsm || call.unit() || call.alpha == 0.0 || call.m == 0 || call.n == 0 {
+        return -1;
+    }
+    let order = if call.right() { call.n } else { call.m };
+    for i in 0..order {
+        if entry(a, call.lda, i as usize, i as usize) == 0.0 {
+            return i;
+        }
+    }
+    -1
 }

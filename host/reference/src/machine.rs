@@ -1,11 +1,11 @@
 //! The plain machine for call sheets: trailer, records, steps and runs.
 
-use crate::{check, loops, width, Call, Routine, ROUTINES};
+use crate::{check, loops, width, zero, Call, Routine, ROUTINES};
 
 /// The words of a record.
 pub const RECORD: usize = 20;
 
-/// What a run returns: its number, the new cursor and the steps made.
+/// What a run returns: its number, the new cursor, the steps made and what it reports.
 #[derive(Clone, Copy, Debug, PartialEq, Eq)]
 pub struct End {
     /// 0, or the number of the refusal
@@ -16,6 +16,8 @@ pub struct End {
     pub s: i32,
     /// the steps made
     pub steps: u32,
+    /// the first record with a zero on the diagonal of its solve, or -1
+    pub zero: i32,
 }
 
 /// What a run is lent: the arrays X, Y and Z and the answers, one for each record and perhaps more.
@@ -130,22 +132,23 @@ fn answer(sheet: &[i32], scalars: &[f64], arrays: &[Vec<f64>; 3], first: usize, 
     }
 }
 
-/// One step at the cursor (p, s), which a run has accepted and which is not at the end; the new cursor.
-fn step(sheet: &[i32], scalars: &[f64], lent: &mut Lent, first: usize, p: usize, s: i32) -> (usize, i32) {
+/// One step at the cursor (p, s), which a run has accepted and which is not at the end; the new cursor, and whether the
+/// step was the last strip of a solve with a zero on the diagonal.
+fn step(sheet: &[i32], scalars: &[f64], lent: &mut Lent, first: usize, p: usize, s: i32) -> ((usize, i32), bool) {
     let record = match answer(sheet, scalars, &lent.arrays, first, p) {
         (0, Some(record)) => record,
         (number, _) => {
             lent.answers[p] = number;
-            return (p + 1, 0);
+            return ((p + 1, 0), false);
         }
     };
     let call = &record.call;
+    let before = lent.arrays.clone();
+    let part = |part: Part| &before[part.array as usize][part.offset as usize..];
     if !call.empty() {
         let (d, w) = (call.extent() as usize, width(call.w) as usize);
         let from = s as usize * w;
         let to = d.min(from + w);
-        let before = lent.arrays.clone();
-        let part = |part: Part| &before[part.array as usize][part.offset as usize..];
         let b: &[f64] = if record.inputs().len() == 2 { part(record.b) } else { &[] };
         let output = record.output();
         let out = &mut lent.arrays[output.array as usize][output.offset as usize..];
@@ -153,9 +156,9 @@ fn step(sheet: &[i32], scalars: &[f64], lent: &mut Lent, first: usize, p: usize,
     }
     if s + 1 == call.strips() {
         lent.answers[p] = 0;
-        (p + 1, 0)
+        ((p + 1, 0), zero(call, part(record.a)) != -1)
     } else {
-        (p, s + 1)
+        ((p, s + 1), false)
     }
 }
 
@@ -186,14 +189,19 @@ fn refusal(sheet: &[i32], scalars: &[f64], lent: &Lent, p: i32, s: i32) -> i32 {
 pub fn run(sheet: &[i32], scalars: &[f64], lent: &mut Lent, p: i32, s: i32, budget: u32) -> End {
     let number = refusal(sheet, scalars, lent, p, s);
     if number != 0 {
-        return End { number, p, s, steps: 0 };
+        return End { number, p, s, steps: 0, zero: -1 };
     }
     let (first, count) = trailer(sheet).expect("the trailer is sound");
     let mut cursor = (p as usize, s);
     let mut steps = 0;
+    let mut zero = -1;
     while steps < budget && cursor.0 < count {
-        cursor = step(sheet, scalars, lent, first, cursor.0, cursor.1);
+        let (next, had_zero) = step(sheet, scalars, lent, first, cursor.0, cursor.1);
+        if had_zero && zero == -1 {
+            zero = cursor.0 as i32;
+        }
+        cursor = next;
         steps += 1;
     }
-    End { number: 0, p: cursor.0 as i32, s: cursor.1, steps }
+    End { number: 0, p: cursor.0 as i32, s: cursor.1, steps, zero }
 }

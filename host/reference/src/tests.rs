@@ -1,7 +1,7 @@
-//! Document 01's table, row by row, and its and document 02's examples of the numbers handed back.
+//! Document 01's table, row by row, its and document 02's examples of the numbers handed back, and the zeros of solves.
 
 use crate::machine::{run, trailer, End, Lent};
-use crate::{direct, Call, Routine};
+use crate::{direct, Call, Done, Routine};
 
 const P: f64 = 9007199254740992.0;
 const LETTER_U: i32 = 'U' as i32;
@@ -25,7 +25,7 @@ fn row(call: Call, a: &[f64], b: &[f64], out: &[f64], result: &[f64]) {
     for w in [0, 1, 2, 3, 64] {
         for r in [0, 1, 2, 3, 64] {
             let mut c = out.to_vec();
-            assert_eq!(direct(&Call { w, r, ..tight(call) }, a, b, &mut c), 0);
+            assert_eq!(direct(&Call { w, r, ..tight(call) }, a, b, &mut c), Done::of(0));
             assert!(same(&c, result), "{c:?} is not {result:?}");
         }
     }
@@ -125,16 +125,16 @@ fn row_m() {
     let sheet = sheet(5, &[record(row_m_call())]);
     let scalars = [1., 0.];
     let mut lent = lent(2);
-    assert_eq!(run(&sheet, &scalars, &mut lent, 0, 0, 2), End { number: 0, p: 0, s: 2, steps: 2 });
+    assert_eq!(run(&sheet, &scalars, &mut lent, 0, 0, 2), End { number: 0, p: 0, s: 2, steps: 2, zero: -1 });
     assert_eq!((lent.arrays[2][..4].to_vec(), lent.answers[0]), (vec![6., 8., 0., 0.], 99));
-    assert_eq!(run(&sheet, &scalars, &mut lent, 0, 2, 1), End { number: 0, p: 1, s: 0, steps: 1 });
+    assert_eq!(run(&sheet, &scalars, &mut lent, 0, 2, 1), End { number: 0, p: 1, s: 0, steps: 1, zero: -1 });
     assert_eq!((lent.arrays[2][..4].to_vec(), lent.answers.clone()), (vec![6., 8., 10., 0.], vec![0, 99]));
-    assert_eq!(run(&sheet, &scalars, &mut lent, 1, 0, 5), End { number: 0, p: 1, s: 0, steps: 0 });
+    assert_eq!(run(&sheet, &scalars, &mut lent, 1, 0, 5), End { number: 0, p: 1, s: 0, steps: 0, zero: -1 });
 }
 
 /// The number of a direct call on arrays of these lengths.
 fn number(call: Call, a: usize, b: usize, c: usize) -> i32 {
-    direct(&call, &vec![1.; a], &vec![1.; b], &mut vec![1.; c])
+    direct(&call, &vec![1.; a], &vec![1.; b], &mut vec![1.; c]).number
 }
 
 #[test]
@@ -159,7 +159,7 @@ fn answer(record: Vec<i32>) -> i32 {
     let before = lent.arrays.clone();
     let end = run(&sheet(0, &[record]), &[1., 0.], &mut lent, 0, 0, 1);
     if lent.answers[0] != 0 {
-        assert_eq!(end, End { number: 0, p: 1, s: 0, steps: 1 });
+        assert_eq!(end, End { number: 0, p: 1, s: 0, steps: 1, zero: -1 });
         assert_eq!(lent.arrays, before);
     }
     lent.answers[0]
@@ -197,7 +197,7 @@ fn refused(sheet: &[i32], scalars: &[f64], answers: usize, p: i32, s: i32) -> i3
     let mut lent = lent(answers);
     let before = lent.clone();
     let end = run(sheet, scalars, &mut lent, p, s, 9);
-    assert_eq!((end.p, end.s, end.steps), (p, s, 0));
+    assert_eq!((end.p, end.s, end.steps, end.zero), (p, s, 0, -1));
     assert_eq!((lent.arrays, lent.answers), (before.arrays, before.answers));
     end.number
 }
@@ -232,7 +232,7 @@ fn a_sheet_is_the_same_in_any_budgets() {
     let sheet = sheet(1, &records);
     let mut whole = lent(3);
     let end = run(&sheet, &scalars, &mut whole, 0, 0, u32::MAX);
-    assert_eq!(end, End { number: 0, p: 3, s: 0, steps: 4 });
+    assert_eq!(end, End { number: 0, p: 3, s: 0, steps: 4, zero: -1 });
     assert_eq!(whole.answers, [0, 31, 0]);
     for budget in 1..4 {
         let mut parts = lent(3);
@@ -244,4 +244,48 @@ fn a_sheet_is_the_same_in_any_budgets() {
         assert_eq!((s, steps), (0, 4));
         assert_eq!((&parts.arrays, &parts.answers), (&whole.arrays, &whole.answers));
     }
+}
+
+#[test]
+fn zeros_on_the_diagonal() {
+    let with_diagonal = |[x, y, z]: [f64; 3]| [x, 5., 5., 5., y, 5., 5., 5., z];
+    let solve = tight(sized(Routine::Trsm, 3, 3, 0));
+    let zero = |call: &Call, diagonal| direct(call, &with_diagonal(diagonal), &[], &mut [1.; 9]).zero;
+    for letters in ["LLN", "LLT", "LUN", "LUT", "RLN", "RLT", "RUN", "RUT"] {
+        let [side, uplo, transa] = [0, 1, 2].map(|place| letters.as_bytes()[place] as i32);
+        let call = Call { side, uplo, transa, ..solve };
+        assert_eq!(zero(&call, [0., 1., 1.]), 0);
+        assert_eq!(zero(&call, [5e-324, 0., 0.]), 1);
+        assert_eq!(zero(&call, [f64::NAN, -0., 0.]), 1);
+        assert_eq!(zero(&call, [1., 1., -0.]), 2);
+        assert_eq!(zero(&call, [1., 1., 1.]), -1);
+        assert_eq!(zero(&Call { diag: LETTER_U, ..call }, [0.; 3]), -1);
+        assert_eq!(zero(&Call { alpha: -0., ..call }, [0.; 3]), -1);
+        assert_eq!(zero(&Call { m: 0, ..call }, [0.; 3]), -1);
+        assert_eq!(zero(&Call { n: 0, ..call }, [0.; 3]), -1);
+        assert_eq!(zero(&Call { w: 65, ..call }, [0.; 3]), -1);
+        assert_eq!(zero(&Call { routine: Routine::Trmm, ..call }, [0.; 3]), -1);
+    }
+}
+
+/// A run's report: a solve counts at the last of its three strips, and a refused one never.
+#[test]
+fn the_first_record_with_a_zero() {
+    let sound = record(Call { w: 1, ..tight(sized(Routine::Trsm, 1, 3, 0)) });
+    let singular = with(sound.clone(), 9, 2);
+    let refused = with(singular.clone(), 18, 65);
+    let sheet = sheet(0, &[refused, sound, singular.clone(), singular]);
+    let zeros = |budgets: &[u32]| -> Vec<i32> {
+        let (mut lent, mut cursor) = (lent(4), (0, 0));
+        let mut run_on = |budget| {
+            let end = run(&sheet, &[1.; 8], &mut lent, cursor.0, cursor.1, budget);
+            cursor = (end.p, end.s);
+            end.zero
+        };
+        budgets.iter().map(|&budget| run_on(budget)).collect()
+    };
+    assert_eq!(zeros(&[10, 9]), [2, -1]);
+    assert_eq!(zeros(&[1, 3, 2, 0, 1, 2, 1, 1]), [-1, -1, -1, -1, 2, -1, 3, -1]);
+    assert_eq!(zeros(&[6, 4]), [-1, 2]);
+    assert_eq!(zeros(&[7, 3]), [2, 3]);
 }

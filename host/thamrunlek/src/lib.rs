@@ -102,16 +102,44 @@ pub fn trmm(
     Refusal::of(Routine::Trmm, number)
 }
 
+/// What a solve found.
+#[derive(Clone, Copy, Debug, PartialEq, Eq)]
+pub struct Solved {
+    /// The lowest index, from 0, at which the diagonal of A is zero (-0.0 too), if there is one. A unit diagonal has
+    /// none, and where α, m or n is zero the diagonal is not looked at.
+    pub zero: Option<i32>,
+}
+
 /// B ← α·op(A)⁻¹·B (side left, A of order m) or B ← α·B·op(A)⁻¹ (side right, A of order n). A is triangular, only its
-/// triangle `uplo` is read; B is m by n. A zero on the diagonal is not refused: the quotient stands.
+/// triangle `uplo` is read; B is m by n. A zero on the diagonal is not refused: the quotients stand, and [`Solved`]
+/// names the lowest one.
+///
+/// # Example
+///
+/// ```
+/// use thamrunlek::{trsm, Blocks, Diagonal::NonUnit, Side::Left, Transpose::No, Triangle::Lower};
+///
+/// let a = [2.0, 1.0, 0.0, 0.0];
+/// let mut b = [4.0, 3.0];
+/// let solved = trsm(Left, Lower, No, NonUnit, 2, 1, 1.0, &a, 2, &mut b, 2, Blocks::default())?;
+/// assert_eq!(b, [2.0, f64::INFINITY]);
+/// assert_eq!(solved.zero, Some(1));
+/// # Ok::<(), thamrunlek::Refusal>(())
+/// ```
 pub fn trsm(
     side: Side, uplo: Triangle, transa: Transpose, diag: Diagonal, m: i32, n: i32, alpha: f64, a: &[f64], lda: i32,
     b: &mut [f64], ldb: i32, blocks: Blocks,
-) -> Result<(), Refusal> {
+) -> Result<Solved, Refusal> {
     let Blocks { width, size } = blocks;
     let (side, uplo, transa, diag) = (side.code(), uplo.code(), transa.code(), diag.code());
-    let number = raw::trsm(side, uplo, transa, diag, m, n, alpha, a, lda, b, ldb, width, size);
-    Refusal::of(Routine::Trsm, number)
+    let raw::SolveEnd { number, zero } = raw::trsm(side, uplo, transa, diag, m, n, alpha, a, lda, b, ldb, width, size);
+    Refusal::of(Routine::Trsm, number)?;
+    Ok(Solved { zero: index(zero) })
+}
+
+/// An index that the library hands back, or nothing for -1.
+fn index(number: i32) -> Option<i32> {
+    (number >= 0).then_some(number)
 }
 
 // The README's code in Rust is tested with the examples of this crate.

@@ -2,7 +2,7 @@
 //!
 //! A routine takes any numbers at all and gives 0, or the number of the first bad argument; refused, it writes nothing.
 //! [`Refusal`](crate::Refusal) says what a number means. Codes are character numbers, as `'N' as i32`. A run of a call
-//! sheet takes any words, too; its number is in its [`RunEnd`].
+//! sheet takes any words, too. Its number is in its [`RunEnd`], and that of a solve in its [`SolveEnd`].
 //!
 //! The library reads and writes nothing outside the slices; that is part of what is proved of it. It keeps no
 //! pointer, so these functions are safe on any arguments.
@@ -37,7 +37,7 @@ extern "C" {
     pub fn tl_dtrsm(
         side: i32, uplo: i32, transa: i32, diag: i32, m: i32, n: i32, alpha: f64, a: *const f64, a_len: usize,
         lda: i32, b: *mut f64, b_len: usize, ldb: i32, w: i32, r: i32,
-    ) -> i32;
+    ) -> SolveEnd;
     pub fn tl_run(
         sheet: *const i32, sheet_len: usize, scalars: *const f64, scalars_len: usize, x: *mut f64, x_len: usize,
         y: *mut f64, y_len: usize, z: *mut f64, z_len: usize, answers: *mut i32, answers_len: usize, p: i32, s: i32,
@@ -104,12 +104,22 @@ pub fn trmm(
     unsafe { tl_dtrmm(side, uplo, transa, diag, m, n, alpha, a, a_len, lda, b, b_len, ldb, w, r) }
 }
 
+/// What a solve hands back.
+#[repr(C)]
+#[derive(Clone, Copy, Debug, PartialEq, Eq)]
+pub struct SolveEnd {
+    /// 0, or the number of the first bad argument.
+    pub number: i32,
+    /// The lowest index at which the diagonal of A is zero, or -1.
+    pub zero: i32,
+}
+
 /// [`crate::trsm`] on raw codes and block sizes.
 #[inline]
 pub fn trsm(
     side: i32, uplo: i32, transa: i32, diag: i32, m: i32, n: i32, alpha: f64, a: &[f64], lda: i32, b: &mut [f64],
     ldb: i32, w: i32, r: i32,
-) -> i32 {
+) -> SolveEnd {
     let (a, a_len) = (a.as_ptr(), a.len());
     let (b, b_len) = (b.as_mut_ptr(), b.len());
     unsafe { tl_dtrsm(side, uplo, transa, diag, m, n, alpha, a, a_len, lda, b, b_len, ldb, w, r) }
@@ -127,6 +137,8 @@ pub struct RunEnd {
     pub s: i32,
     /// The steps made.
     pub steps: u32,
+    /// The first record whose solve had a zero on the diagonal, or -1.
+    pub zero: i32,
 }
 
 /// [`crate::run`] with the cursor (p, s).

@@ -1,5 +1,6 @@
 //! Runs of a call sheet.
 
+use crate::index;
 use crate::raw::{self, RunEnd};
 use std::{error, fmt};
 
@@ -19,6 +20,9 @@ pub struct Ran {
     pub cursor: Cursor,
     /// The steps made: as many as the budget, or fewer if the sheet is finished.
     pub steps: u32,
+    /// The first record whose solve had a zero on the diagonal, by the rules of [`Solved`](crate::Solved), if there is
+    /// one. A solve counts in the run that makes its last strip.
+    pub zero: Option<i32>,
 }
 
 /// A refused run: it wrote nothing, and its cursor stands.
@@ -57,7 +61,7 @@ impl error::Error for RunRefusal {}
 ///
 /// When a record is through, `answers[p]` is 0, or the number of its refusal: 31 for the routine, 32 for an array, 33
 /// for a first element, or the number that the routine itself refuses with. A refused record costs one step and writes
-/// nothing else.
+/// nothing else. A solve with a zero on the diagonal is not refused; [`Ran`] names the first one.
 ///
 /// The arrays, the answers and the cursor are all that a sheet needs to be taken up again; how it is cut into runs
 /// changes no bit.
@@ -95,10 +99,10 @@ pub fn run(
     sheet: &[i32], scalars: &[f64], x: &mut [f64], y: &mut [f64], z: &mut [f64], answers: &mut [i32], cursor: Cursor,
     budget: u32,
 ) -> Result<Ran, RunRefusal> {
-    let RunEnd { number, p, s, steps } =
+    let RunEnd { number, p, s, steps, zero } =
         raw::run(sheet, scalars, x, y, z, answers, cursor.record, cursor.strip, budget);
     match number {
-        0 => Ok(Ran { cursor: Cursor { record: p, strip: s }, steps }),
+        0 => Ok(Ran { cursor: Cursor { record: p, strip: s }, steps, zero: index(zero) }),
         _ => Err(RunRefusal { number }),
     }
 }

@@ -1,10 +1,11 @@
-//! The rows of document 01's table, through the safe functions, and an example of document 02, through the C function.
+//! The rows of document 01's table, through the safe functions, an example of document 02, through the C function, and
+//! what solves and runs report.
 
 use thamrunlek::Diagonal::{NonUnit, Unit};
-use thamrunlek::Side::Left;
-use thamrunlek::Transpose::No;
+use thamrunlek::Side::{Left, Right};
+use thamrunlek::Transpose::{No, Yes};
 use thamrunlek::Triangle::{Lower, Upper};
-use thamrunlek::{gemm, raw, run, symm, syr2k, syrk, trmm, trsm, Blocks, Cursor, Refusal};
+use thamrunlek::{gemm, raw, run, symm, syr2k, syrk, trmm, trsm, Blocks, Cursor, Refusal, Solved};
 
 const P: f64 = 9007199254740992.0;
 
@@ -58,11 +59,12 @@ fn trmm_row() {
 
 #[test]
 fn trsm_rows() {
+    let none = |solved| assert_eq!(solved, Solved { zero: None });
     row(&[3., 7.], &[3., 2.75], |b, blocks| {
-        trsm(Left, Lower, No, NonUnit, 2, 1, 2., &[2., 1., 9., 4.], 2, b, 2, blocks)
+        trsm(Left, Lower, No, NonUnit, 2, 1, 2., &[2., 1., 9., 4.], 2, b, 2, blocks).map(none)
     });
     row(&[1., P, -P], &[0., P, -P], |b, blocks| {
-        trsm(Left, Upper, No, Unit, 3, 1, 1., &[1., 0., 0., 1., 1., 0., 1., 0., 1.], 3, b, 3, blocks)
+        trsm(Left, Upper, No, Unit, 3, 1, 1., &[1., 0., 0., 1., 1., 0., 1., 0., 1.], 3, b, 3, blocks).map(none)
     });
 }
 
@@ -105,4 +107,40 @@ fn a_leading_dimension_is_at_least_1() {
     let number = |lda| unsafe { raw::tl_dgemm(N, N, 0, 1, 1, 1., x, 1, lda, x, 1, 1, 0., z, 1, 1, 64, 64) };
     assert_eq!([number(0), number(1)], [8, 0]);
     assert_eq!(c, [7.]);
+}
+
+/// Document 02, K11: the lowest diagonal index at which A is zero, whatever the direction of solving.
+#[test]
+fn a_solve_names_the_zero_on_the_diagonal() {
+    let a = [4., 1., 1., 1., -0., 1., 1., 1., 0.];
+    let options = |side| [(side, Lower, No), (side, Lower, Yes), (side, Upper, No), (side, Upper, Yes)];
+    for (side, uplo, transa) in [Left, Right].into_iter().flat_map(options) {
+        let zero = |diag, n, alpha, size| {
+            let blocks = Blocks { width: 1, size };
+            trsm(side, uplo, transa, diag, n, n, alpha, &a, 3, &mut [1.; 9], 3, blocks).map(|solved| solved.zero)
+        };
+        for size in [0, 1, 2, 64] {
+            assert_eq!(zero(NonUnit, 3, 1., size), Ok(Some(1)));
+            assert_eq!(zero(NonUnit, 1, 1., size), Ok(None));
+            assert_eq!(zero(Unit, 3, 1., size), Ok(None));
+            assert_eq!(zero(NonUnit, 3, 0., size), Ok(None));
+            assert_eq!(zero(NonUnit, 0, 1., size), Ok(None));
+        }
+        assert_eq!(zero(NonUnit, 4, 1., 0).unwrap_err().number(), 9);
+    }
+}
+
+/// Document 02, K11: a run names the first record whose solve had a zero, and a solve counts at its last strip.
+#[test]
+fn a_run_names_the_record_with_the_zero() {
+    let [l, n] = ['L' as i32, 'N' as i32];
+    let solve = |first| [6, l, l, n, 0, n, 1, 2, 0, 0, first, 1, 1, 0, 1, 0, 0, 0, 1, 0];
+    let sheet = [&solve(0)[..], &solve(1), &solve(1), &[0, 3]].concat();
+    let (mut x, mut y, mut answers) = ([2., 0.], [4., 6.], [7; 3]);
+    let mut zero = |record, strip, budget| {
+        let cursor = Cursor { record, strip };
+        run(&sheet, &[1.; 6], &mut x, &mut y, &mut [], &mut answers, cursor, budget).unwrap().zero
+    };
+    assert_eq!([zero(0, 0, 3), zero(1, 1, 1), zero(2, 0, 1), zero(2, 1, 9)], [None, Some(1), None, Some(2)]);
+    assert_eq!([zero(0, 0, 9), zero(3, 0, 9)], [Some(1), None]);
 }

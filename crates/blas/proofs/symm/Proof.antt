@@ -69,8 +69,8 @@ same-length c = search needs
 returns : tie.Need-returns
 unfolding symm
 returns c =
-    let d = is-done (c .before .before .before .before .before .before .before .before .before .before .before .before .args .w) (c .before .before .before .before .before .before .before .before .before .before .before .before .args .r) (given (c .before .before .before .before .before .before .before .before .before .before .before .before)) _ (answer (c .before .before .before .before .before .before)) _ _ _ _ _ (c .before .before .answered .ensures) in
-    (toZ-ofZ w32 (c .before .before .answered .result) (record { sfits = c .before .before .answered .ok }) ∙ d .0, d .1)
+    let d = is-done (c .before .before .before .before .before .before .before .before .before .before .before .before .before .args .w) (c .before .before .before .before .before .before .before .before .before .before .before .before .before .args .r) (given (c .before .before .before .before .before .before .before .before .before .before .before .before .before)) _ (answer (c .before .before .before .before .before .before .before)) _ _ _ _ _ _ (c .before .before .before .answered .ensures) in
+    (toZ-ofZ w32 (c .before .before .before .answered .result .number) (record { sfits = c .struct-told .given .0 .1 }) ∙ d .0, d .1)
 
 pub symm-spec : {M : Type 1} → statement M
 symm-spec =

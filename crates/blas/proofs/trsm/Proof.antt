@@ -11,7 +11,7 @@ use Rattle.definitions.specs.Check.{width, checked}
 use Rattle.definitions.specs.Direct.{triangularArgs, trsm}
 use Rattle.definitions.specs.declared.Routine.the-variants.{Trsm}
 use Rattle.definitions.specs.declared.Args.{Args}
-use Rattle.blas.proofs.Answers.{small, goes-on, is-done}
+use Rattle.blas.proofs.Answers.{small, goes-on, is-solved}
 use borrow.Author.Needs.{needs}
 use Rattle.blas.proofs.trsm.Statement.{statement}
 use Rattle.blas.proofs.trsm.Tie as tie
@@ -69,9 +69,7 @@ same-length c = search needs
 
 returns : tie.Need-returns
 unfolding trsm
-returns c =
-    let d = is-done (c .before .before .before .before .before .before .before .before .before .before .before .args .w) (c .before .before .before .before .before .before .before .before .before .before .before .args .r) (given (c .before .before .before .before .before .before .before .before .before .before .before)) _ (answer (c .before .before .before .before .before .before .before)) _ _ _ _ _ (c .before .before .answered .ensures) in
-    (toZ-ofZ w32 (c .before .before .answered .result) (record { sfits = c .before .before .answered .ok }) ∙ d .0, d .1)
+returns c = is-solved (c .before .before .before .before .before .before .before .before .before .before .before .args .w) (c .before .before .before .before .before .before .before .before .before .before .before .args .r) (given (c .before .before .before .before .before .before .before .before .before .before .before)) _ (answer (c .before .before .before .before .before .before .before)) _ _ _ _ _ _ (c .before .before .answered .ensures)
 
 pub trsm-spec : {M : Type 1} → statement M
 trsm-spec =

@@ -1,6 +1,5 @@
 -- `exports::tl_dtrsm` is `blas::trsm`: its numbers go through their bits once.
 -- Assumes nothing.
-use mathlib.Core.Path.{_∙_}
 use mir.Syntax.{w32}
 use mir.ValLaws.{toZ-ofZ}
 use borrow.Author.Needs.{needs}
@@ -17,8 +16,7 @@ returns : tie.Need-returns
 returns c =
     let g = c .before .before .before .before .before .before .args in
     let f = c .before .before .before .before .before .before .fits in
-    let e = simp (toZ-ofZ w32 (g .side) (f .side), toZ-ofZ w32 (g .uplo) (f .uplo), toZ-ofZ w32 (g .transa) (f .transa), toZ-ofZ w32 (g .diag) (f .diag), toZ-ofZ w32 (g .m) (f .m), toZ-ofZ w32 (g .n) (f .n), toZ-ofZ w32 (g .lda) (f .lda), toZ-ofZ w32 (g .ldb) (f .ldb), toZ-ofZ w32 (g .w) (f .w), toZ-ofZ w32 (g .r) (f .r)) at (c .before .before .trsm .ensures) in
-    (toZ-ofZ w32 (c .before .before .trsm .result) (record { sfits = c .before .before .trsm .ok }) ∙ e .0, e .1)
+    simp (toZ-ofZ w32 (g .side) (f .side), toZ-ofZ w32 (g .uplo) (f .uplo), toZ-ofZ w32 (g .transa) (f .transa), toZ-ofZ w32 (g .diag) (f .diag), toZ-ofZ w32 (g .m) (f .m), toZ-ofZ w32 (g .n) (f .n), toZ-ofZ w32 (g .lda) (f .lda), toZ-ofZ w32 (g .ldb) (f .ldb), toZ-ofZ w32 (g .w) (f .w), toZ-ofZ w32 (g .r) (f .r)) at (c .before .before .trsm .ensures)
 
 pub tl-dtrsm-spec : {M : Type 1} → statement M
 tl-dtrsm-spec = tie.close (tie.spec trsm-requires same-length returns)

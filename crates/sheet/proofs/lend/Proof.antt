@@ -5,7 +5,9 @@ use mathlib.Core.Path.{ap, _∙_}
 use lib.ListN.{length}
 use denote.Ref.{now}
 use Rattle.arrays.proofs.PartLaws.{tail-length}
-use Rattle.sheet.proofs.Strips.{fits-lengths, lend-back}
+use mir.Syntax.{w32}
+use mir.ValLaws.{toZ-ofZ}
+use Rattle.sheet.proofs.Strips.{fits-lengths, lend-back, lend-reports}
 use native.Mathlib.Omega.{arith}
 use borrow.Author.Needs.{needs}
 use Rattle.sheet.proofs.lend.Statement.{statement}
@@ -66,9 +68,11 @@ same-length : tie.Need-same-length
 same-length c = search needs
 
 returns : tie.Need-returns
-returns c =
-    lend-back (c .before .before .before .before .before .before .before .before .before .before .before .args .call) (c .before .before .before .before .before .before .before .before .before .before .before .args .from) _ (c .before .before .before .before .before .before .before .before .before .before .before .args .off) (c .before .before .before .before .before .before .before .before .before .before .before .args .offa) (c .before .before .before .before .before .before .before .before .before .before .before .args .offb) (now (c .before .before .before .before .before .before .before .before .before .before .before .args .out)) (now (c .before .before .before .before .before .before .before .pick .result)) (now (c .before .before .before .before .before .before .pick2 .result)) _ _ _
-    (c .before .before .before .before .before .before .before .before .before .before .before .pre .0 .0) (c .before .before .before .before .before .before .before .pick .ensures) (c .before .before .before .before .before .before .pick2 .ensures) (c .before .before .strip .ensures)
+returns c = (
+  lend-back (c .before .before .before .before .before .before .before .before .before .before .before .args .call) (c .before .before .before .before .before .before .before .before .before .before .before .args .from) _ (c .before .before .before .before .before .before .before .before .before .before .before .args .off) (c .before .before .before .before .before .before .before .before .before .before .before .args .offa) (c .before .before .before .before .before .before .before .before .before .before .before .args .offb) (now (c .before .before .before .before .before .before .before .before .before .before .before .args .out)) (now (c .before .before .before .before .before .before .before .pick .result)) (now (c .before .before .before .before .before .before .pick2 .result)) _ _ _
+      (c .before .before .before .before .before .before .before .before .before .before .before .pre .0 .0) (c .before .before .before .before .before .before .before .pick .ensures) (c .before .before .before .before .before .before .pick2 .ensures) (c .before .before .strip .ensures .0),
+  toZ-ofZ w32 (c .before .before .strip .result) (record { sfits = c .before .before .strip .ok }) ∙ c .before .before .strip .ensures .1 ∙ lend-reports (c .before .before .before .before .before .before .before .before .before .before .before .args .call) (c .before .before .before .before .before .before .before .before .before .before .before .args .offa) (now (c .before .before .before .before .before .before .before .pick .result)) _ (c .before .before .before .before .before .before .before .pick .ensures),
+)
 
 pub lend-spec : {M : Type 1} → statement M
 lend-spec =

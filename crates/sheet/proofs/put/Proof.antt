@@ -2,9 +2,11 @@
 -- Assumes nothing.
 use mathlib.Core.Path.{_≡_, sym, ap, _∙_}
 use denote.Ref.{now}
+use mir.Syntax.{w32}
+use mir.ValLaws.{toZ-ofZ}
 use Rattle.definitions.specs.Sheet.{Arrays, array, withArray}
 use Rattle.records.specs.Judgement.{arraysOf}
-use Rattle.sheet.proofs.Strips.{beside-X, beside-Y, beside-Z, lent-fits, comes-back}
+use Rattle.sheet.proofs.Strips.{beside-X, beside-Y, beside-Z, lent-fits, comes-back, report-is}
 use native.Mathlib.Omega.{arith}
 use borrow.Author.Needs.{needs}
 use Rattle.sheet.proofs.put.Statement.{statement}
@@ -28,7 +30,9 @@ same-length-3 c = search needs
 
 returns : tie.Need-returns
 unfolding array withArray
-returns c = comes-back (c .before .before .before .before .before .before .before .before .before .before .args .call) (c .before .before .before .before .before .before .before .before .before .before .args .out) (c .before .before .before .before .before .before .before .before .before .before .args .a) (c .before .before .before .before .before .before .before .before .before .before .args .b) (arrays (c .before .before .before .before .before .before .before .before .before .before)) (c .before .before .before .before .before .before .before .before .before .before .args .from) _ 0 (c .before .before .before .before .before .before .if1 .taken) _ _ _ (beside-X (arrays (c .before .before .before .before .before .before .before .before .before .before)) (c .before .before .before .before .before .before .before .before .before .before .args .a .array) (c .before .before .before .before .before .before .before .before .before .before .pre .0 .a-array) (λ e. c .before .before .before .before .before .before .before .before .before .before .pre .0 .a-apart (e ∙ sym (c .before .before .before .before .before .before .if1 .taken)))) (beside-X (arrays (c .before .before .before .before .before .before .before .before .before .before)) (c .before .before .before .before .before .before .before .before .before .before .args .b .array) (c .before .before .before .before .before .before .before .before .before .before .pre .0 .b-array) (λ e. c .before .before .before .before .before .before .before .before .before .before .pre .0 .b-apart (e ∙ sym (c .before .before .before .before .before .before .if1 .taken)))) (c .before .before .lend .ensures)
+returns c =
+    let a = beside-X (arrays (c .before .before .before .before .before .before .before .before .before .before)) (c .before .before .before .before .before .before .before .before .before .before .args .a .array) (c .before .before .before .before .before .before .before .before .before .before .pre .0 .a-array) (λ e. c .before .before .before .before .before .before .before .before .before .before .pre .0 .a-apart (e ∙ sym (c .before .before .before .before .before .before .if1 .taken))) in
+    (comes-back (c .before .before .before .before .before .before .before .before .before .before .args .call) (c .before .before .before .before .before .before .before .before .before .before .args .out) (c .before .before .before .before .before .before .before .before .before .before .args .a) (c .before .before .before .before .before .before .before .before .before .before .args .b) (arrays (c .before .before .before .before .before .before .before .before .before .before)) (c .before .before .before .before .before .before .before .before .before .before .args .from) _ 0 (c .before .before .before .before .before .before .if1 .taken) _ _ _ a (beside-X (arrays (c .before .before .before .before .before .before .before .before .before .before)) (c .before .before .before .before .before .before .before .before .before .before .args .b .array) (c .before .before .before .before .before .before .before .before .before .before .pre .0 .b-array) (λ e. c .before .before .before .before .before .before .before .before .before .before .pre .0 .b-apart (e ∙ sym (c .before .before .before .before .before .before .if1 .taken)))) (c .before .before .lend .ensures .0), toZ-ofZ w32 (c .before .before .lend .result) (record { sfits = c .before .before .lend .ok }) ∙ c .before .before .lend .ensures .1 ∙ report-is (c .before .before .before .before .before .before .before .before .before .before .args .call) (c .before .before .before .before .before .before .before .before .before .before .args .a) (arrays (c .before .before .before .before .before .before .before .before .before .before)) _ a)
 
 lend-requires-2 : tie.Need-lend-requires-2
 unfolding array
@@ -45,7 +49,9 @@ same-length-6 c = search needs
 
 returns-2 : tie.Need-returns-2
 unfolding array withArray
-returns-2 c = comes-back (c .before .before .before .before .before .before .before .before .before .before .before .args .call) (c .before .before .before .before .before .before .before .before .before .before .before .args .out) (c .before .before .before .before .before .before .before .before .before .before .before .args .a) (c .before .before .before .before .before .before .before .before .before .before .before .args .b) (arrays (c .before .before .before .before .before .before .before .before .before .before .before)) (c .before .before .before .before .before .before .before .before .before .before .before .args .from) _ 1 (c .before .before .before .before .before .before .if2 .taken) _ _ _ (beside-Y (arrays (c .before .before .before .before .before .before .before .before .before .before .before)) (c .before .before .before .before .before .before .before .before .before .before .before .args .a .array) (c .before .before .before .before .before .before .before .before .before .before .before .pre .0 .a-array) (λ e. c .before .before .before .before .before .before .before .before .before .before .before .pre .0 .a-apart (e ∙ sym (c .before .before .before .before .before .before .if2 .taken)))) (beside-Y (arrays (c .before .before .before .before .before .before .before .before .before .before .before)) (c .before .before .before .before .before .before .before .before .before .before .before .args .b .array) (c .before .before .before .before .before .before .before .before .before .before .before .pre .0 .b-array) (λ e. c .before .before .before .before .before .before .before .before .before .before .before .pre .0 .b-apart (e ∙ sym (c .before .before .before .before .before .before .if2 .taken)))) (c .before .before .lend2 .ensures)
+returns-2 c =
+    let a = beside-Y (arrays (c .before .before .before .before .before .before .before .before .before .before .before)) (c .before .before .before .before .before .before .before .before .before .before .before .args .a .array) (c .before .before .before .before .before .before .before .before .before .before .before .pre .0 .a-array) (λ e. c .before .before .before .before .before .before .before .before .before .before .before .pre .0 .a-apart (e ∙ sym (c .before .before .before .before .before .before .if2 .taken))) in
+    (comes-back (c .before .before .before .before .before .before .before .before .before .before .before .args .call) (c .before .before .before .before .before .before .before .before .before .before .before .args .out) (c .before .before .before .before .before .before .before .before .before .before .before .args .a) (c .before .before .before .before .before .before .before .before .before .before .before .args .b) (arrays (c .before .before .before .before .before .before .before .before .before .before .before)) (c .before .before .before .before .before .before .before .before .before .before .before .args .from) _ 1 (c .before .before .before .before .before .before .if2 .taken) _ _ _ a (beside-Y (arrays (c .before .before .before .before .before .before .before .before .before .before .before)) (c .before .before .before .before .before .before .before .before .before .before .before .args .b .array) (c .before .before .before .before .before .before .before .before .before .before .before .pre .0 .b-array) (λ e. c .before .before .before .before .before .before .before .before .before .before .before .pre .0 .b-apart (e ∙ sym (c .before .before .before .before .before .before .if2 .taken)))) (c .before .before .lend2 .ensures .0), toZ-ofZ w32 (c .before .before .lend2 .result) (record { sfits = c .before .before .lend2 .ok }) ∙ c .before .before .lend2 .ensures .1 ∙ report-is (c .before .before .before .before .before .before .before .before .before .before .before .args .call) (c .before .before .before .before .before .before .before .before .before .before .before .args .a) (arrays (c .before .before .before .before .before .before .before .before .before .before .before)) _ a)
 
 lend-requires-3 : tie.Need-lend-requires-3
 unfolding array
@@ -62,7 +68,9 @@ same-length-9 c = search needs
 
 returns-3 : tie.Need-returns-3
 unfolding array withArray
-returns-3 c = comes-back (c .before .before .before .before .before .before .before .before .before .before .before .args .call) (c .before .before .before .before .before .before .before .before .before .before .before .args .out) (c .before .before .before .before .before .before .before .before .before .before .before .args .a) (c .before .before .before .before .before .before .before .before .before .before .before .args .b) (arrays (c .before .before .before .before .before .before .before .before .before .before .before)) (c .before .before .before .before .before .before .before .before .before .before .before .args .from) _ 2 (let z : c .before .before .before .before .before .before .before .before .before .before .before .args .out .array ≡ 2 = omega (arith, c .before .before .before .before .before .before .before .before .before .before .before .pre .0 .out-array, c .before .before .before .before .before .before .before .if1 .left, c .before .before .before .before .before .before .if2 .left) in z) _ _ _ (beside-Z (arrays (c .before .before .before .before .before .before .before .before .before .before .before)) (c .before .before .before .before .before .before .before .before .before .before .before .args .a .array) (c .before .before .before .before .before .before .before .before .before .before .before .pre .0 .a-array) (λ e. c .before .before .before .before .before .before .before .before .before .before .before .pre .0 .a-apart (e ∙ sym (let z : c .before .before .before .before .before .before .before .before .before .before .before .args .out .array ≡ 2 = omega (arith, c .before .before .before .before .before .before .before .before .before .before .before .pre .0 .out-array, c .before .before .before .before .before .before .before .if1 .left, c .before .before .before .before .before .before .if2 .left) in z)))) (beside-Z (arrays (c .before .before .before .before .before .before .before .before .before .before .before)) (c .before .before .before .before .before .before .before .before .before .before .before .args .b .array) (c .before .before .before .before .before .before .before .before .before .before .before .pre .0 .b-array) (λ e. c .before .before .before .before .before .before .before .before .before .before .before .pre .0 .b-apart (e ∙ sym (let z : c .before .before .before .before .before .before .before .before .before .before .before .args .out .array ≡ 2 = omega (arith, c .before .before .before .before .before .before .before .before .before .before .before .pre .0 .out-array, c .before .before .before .before .before .before .before .if1 .left, c .before .before .before .before .before .before .if2 .left) in z)))) (c .before .before .lend3 .ensures)
+returns-3 c =
+    let a = beside-Z (arrays (c .before .before .before .before .before .before .before .before .before .before .before)) (c .before .before .before .before .before .before .before .before .before .before .before .args .a .array) (c .before .before .before .before .before .before .before .before .before .before .before .pre .0 .a-array) (λ e. c .before .before .before .before .before .before .before .before .before .before .before .pre .0 .a-apart (e ∙ sym (let z : c .before .before .before .before .before .before .before .before .before .before .before .args .out .array ≡ 2 = omega (arith, c .before .before .before .before .before .before .before .before .before .before .before .pre .0 .out-array, c .before .before .before .before .before .before .before .if1 .left, c .before .before .before .before .before .before .if2 .left) in z))) in
+    (comes-back (c .before .before .before .before .before .before .before .before .before .before .before .args .call) (c .before .before .before .before .before .before .before .before .before .before .before .args .out) (c .before .before .before .before .before .before .before .before .before .before .before .args .a) (c .before .before .before .before .before .before .before .before .before .before .before .args .b) (arrays (c .before .before .before .before .before .before .before .before .before .before .before)) (c .before .before .before .before .before .before .before .before .before .before .before .args .from) _ 2 (let z : c .before .before .before .before .before .before .before .before .before .before .before .args .out .array ≡ 2 = omega (arith, c .before .before .before .before .before .before .before .before .before .before .before .pre .0 .out-array, c .before .before .before .before .before .before .before .if1 .left, c .before .before .before .before .before .before .if2 .left) in z) _ _ _ a (beside-Z (arrays (c .before .before .before .before .before .before .before .before .before .before .before)) (c .before .before .before .before .before .before .before .before .before .before .before .args .b .array) (c .before .before .before .before .before .before .before .before .before .before .before .pre .0 .b-array) (λ e. c .before .before .before .before .before .before .before .before .before .before .before .pre .0 .b-apart (e ∙ sym (let z : c .before .before .before .before .before .before .before .before .before .before .before .args .out .array ≡ 2 = omega (arith, c .before .before .before .before .before .before .before .before .before .before .before .pre .0 .out-array, c .before .before .before .before .before .before .before .if1 .left, c .before .before .before .before .before .before .if2 .left) in z)))) (c .before .before .lend3 .ensures .0), toZ-ofZ w32 (c .before .before .lend3 .result) (record { sfits = c .before .before .lend3 .ok }) ∙ c .before .before .lend3 .ensures .1 ∙ report-is (c .before .before .before .before .before .before .before .before .before .before .before .args .call) (c .before .before .before .before .before .before .before .before .before .before .before .args .a) (arrays (c .before .before .before .before .before .before .before .before .before .before .before)) _ a)
 
 pub put-spec : {M : Type 1} → statement M
 put-spec =

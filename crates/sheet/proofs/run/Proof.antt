@@ -2,13 +2,14 @@
 -- Assumes nothing.
 use Prim.Native.Nat.{_^_, _≤_, _<_}
 use mathlib.Core.Path.{_≡_, sym, ap, _∙_}
+use lib.IntN.{negsuc}
 use native.Mathlib.Omega.{arith}
 use lib.ListN.{length}
 use denote.Ref.{now}
 use mir.Syntax.{w32}
 use mir.ValLaws.{toZ-ofZ, toZ-pos}
 use Rattle.definitions.specs.Check.{nat}
-use Rattle.definitions.specs.Machine.{iterate, made}
+use Rattle.definitions.specs.Machine.{iterate, made, reported}
 use Rattle.definitions.specs.Sheet.{Sheet, Arrays, index, count, word, records, act}
 use Rattle.definitions.specs.Run.{begin, runRefusal}
 use Rattle.records.specs.Judgement.{sheetOf, arraysOf}
@@ -75,7 +76,7 @@ same-length-4 c = search needs
 returns : tie.Need-returns
 returns c =
     let n : c .before .refusal .result < 2 ^ 31 = omega (arith, number-is (c .before), number-small (sheet (c .before .before .before .before .before .before .before .before .before .before)) (arrays (c .before .before .before .before .before .before .before .before .before .before)) (now (c .before .before .before .before .before .before .before .before .before .before .args .answers)) (c .before .before .before .before .before .before .before .before .before .before .args .p) (c .before .before .before .before .before .before .before .before .before .before .args .s)) in
-    (λ i. ranOf (record { number = toZ-pos w32 (c .before .refusal .result) n i; p = toZ-ofZ w32 (c .before .before .before .before .before .before .before .before .before .before .args .p) (c .before .before .before .before .before .before .before .before .before .before .fits .p) i; s = toZ-ofZ w32 (c .before .before .before .before .before .before .before .before .before .before .args .s) (c .before .before .before .before .before .before .before .before .before .before .fits .s) i; steps = 0 }) (arrays (c .before .before .before .before .before .before .before .before .before .before)) (now (c .before .before .before .before .before .before .before .before .before .before .args .answers)))
+    (λ i. ranOf (record { number = toZ-pos w32 (c .before .refusal .result) n i; p = toZ-ofZ w32 (c .before .before .before .before .before .before .before .before .before .before .args .p) (c .before .before .before .before .before .before .before .before .before .before .fits .p) i; s = toZ-ofZ w32 (c .before .before .before .before .before .before .before .before .before .before .args .s) (c .before .before .before .before .before .before .before .before .before .before .fits .s) i; steps = 0; zero = negsuc 0 }) (arrays (c .before .before .before .before .before .before .before .before .before .before)) (now (c .before .before .before .before .before .before .before .before .before .before .args .answers)))
     ∙ run-refused (sheet (c .before .before .before .before .before .before .before .before .before .before)) (arrays (c .before .before .before .before .before .before .before .before .before .before)) (now (c .before .before .before .before .before .before .before .before .before .before .args .answers)) (c .before .before .before .before .before .before .before .before .before .before .args .p) (c .before .before .before .before .before .before .before .before .before .before .args .s) (c .before .before .before .before .before .before .before .before .before .before .args .budget) _ (number-is (c .before)) (c .if1 .taken)
 
 sub-size-at : tie.Need-sub-size-at
@@ -109,7 +110,7 @@ go-requires c κs =
     let n = count-is (c .before .before .before .before .before .before) in
     let e = long-enough (sheet (c .before .before .before .before .before .before .before .before .before .before .before .before .before .before .before .before .before .before)) (now (c .before .before .before .before .before .before .before .before .before .before .before .before .before .before .before .before .before .before .args .answers)) (h .long) in
     let room = sound-room (sheet (c .before .before .before .before .before .before .before .before .before .before .before .before .before .before .before .before .before .before)) (long (c .before .before .before .before .before .before .before .before)) (h .trailer) in (
-      (i, omega (arith, i, n, room), omega (arith, n, e .1), omega (arith, n, e .0)),
+      (i, omega (arith, i, n, room), omega (arith, n, e .1), omega (arith, n, e .0), omega (arith, c .before .before .before .before .before .before .size-at2 .ensures .1)),
       (
         placed-at (sheet (c .before .before .before .before .before .before .before .before .before .before .before .before .before .before .before .before .before .before)) (arrays (c .before .before .before .before .before .before .before .before .before .before .before .before .before .before .before .before .before .before)) (now (c .before .before .before .before .before .before .before .before .before .before .before .before .before .before .before .before .before .before .args .answers)) (c .before .before .before .before .before .before .before .before .before .before .before .before .before .before .before .before .before .before .args .p) (c .before .before .before .before .before .before .before .before .before .before .before .before .before .before .before .before .before .before .args .s) _ _ _ n (p-is (c .before .before .before .before .before)) (s-is (c .before .before .before .before)) (h .cursor),
         omega (arith, c .before .before .before .before .size2 .ensures, word-small (c .before .before .before .before .before .before .before .before .before .before .before .before .before .before .before .before .before .before .args .s) (c .before .before .before .before .before .before .before .before .before .before .before .before .before .before .before .before .before .before .fits .s .sfits)),
@@ -136,13 +137,14 @@ same-length-8 c = search needs
 
 returns-2 : tie.Need-returns-2
 returns-2 c =
-    let z = none (c .before .before .before .before .before .before .before .before .before .before .before .before .before .before .before .before .before .before) in
-    let q = p-is (c .before .before .before .before .before .before .before .before .before .before .before .before .before .before .before) in
-    let u = s-is (c .before .before .before .before .before .before .before .before .before .before .before .before .before .before) in
-    let n = count-is (c .before .before .before .before .before .before .before .before .before .before .before .before .before .before .before .before) in
-    run-goes (sheet (c .before .before .before .before .before .before .before .before .before .before .before .before .before .before .before .before .before .before .before .before .before .before .before .before .before .before .before .before)) (arrays (c .before .before .before .before .before .before .before .before .before .before .before .before .before .before .before .before .before .before .before .before .before .before .before .before .before .before .before .before)) (now (c .before .before .before .before .before .before .before .before .before .before .before .before .before .before .before .before .before .before .before .before .before .before .before .before .before .before .before .before .args .answers)) (c .before .before .before .before .before .before .before .before .before .before .before .before .before .before .before .before .before .before .before .before .before .before .before .before .before .before .before .before .args .p) (c .before .before .before .before .before .before .before .before .before .before .before .before .before .before .before .before .before .before .before .before .before .before .before .before .before .before .before .before .args .s) (c .before .before .before .before .before .before .before .before .before .before .before .before .before .before .before .before .before .before .before .before .before .before .before .before .before .before .before .before .args .budget) (c .before .before .before .before .before .before .before .before .before .before .before .before .before .before .before .before .size-at2 .result) _ _ _ _ _ _ _ (toZ-pos w32 (c .before .before .before .before .before .before .before .before .before .go .result .p) (omega (arith, c .before .before .before .before .before .before .before .before .before .go .ensures .2, c .before .before .before .before .before .before .before .before .before .before .before .before .before .before .before .before .size-at2 .ensures .1))) (toZ-pos w32 (c .before .before .before .before .before .before .before .before .before .go .result .s) (c .before .before .before .before .before .before .before .before .before .go .ensures .3)) z n
-    (c .before .before .before .before .before .before .before .before .before .go .ensures .0 ∙ (λ i. iterate (c .before .before .before .before .before .before .before .before .before .before .before .before .before .before .before .before .size-at2 .result) (act (sheet (c .before .before .before .before .before .before .before .before .before .before .before .before .before .before .before .before .before .before .before .before .before .before .before .before .before .before .before .before))) (c .before .before .before .before .before .before .before .before .before .before .before .before .before .before .before .before .before .before .before .before .before .before .before .before .before .before .before .before .args .budget) (begin (arrays (c .before .before .before .before .before .before .before .before .before .before .before .before .before .before .before .before .before .before .before .before .before .before .before .before .before .before .before .before)) (now (c .before .before .before .before .before .before .before .before .before .before .before .before .before .before .before .before .before .before .before .before .before .before .before .before .before .before .before .before .args .answers)) (q i) (u i))))
-    (c .before .before .before .before .before .before .before .before .before .go .ensures .1 ∙ (λ i. made (c .before .before .before .before .before .before .before .before .before .before .before .before .before .before .before .before .size-at2 .result) (act (sheet (c .before .before .before .before .before .before .before .before .before .before .before .before .before .before .before .before .before .before .before .before .before .before .before .before .before .before .before .before))) (c .before .before .before .before .before .before .before .before .before .before .before .before .before .before .before .before .before .before .before .before .before .before .before .before .before .before .before .before .args .budget) (begin (arrays (c .before .before .before .before .before .before .before .before .before .before .before .before .before .before .before .before .before .before .before .before .before .before .before .before .before .before .before .before)) (now (c .before .before .before .before .before .before .before .before .before .before .before .before .before .before .before .before .before .before .before .before .before .before .before .before .before .before .before .before .args .answers)) (q i) (u i))))
+    let z = none (c .before .before .before .before .before .before .before .before .before .before .before .before .before .before .before .before .before .before .before) in
+    let q = p-is (c .before .before .before .before .before .before .before .before .before .before .before .before .before .before .before .before) in
+    let u = s-is (c .before .before .before .before .before .before .before .before .before .before .before .before .before .before .before) in
+    let n = count-is (c .before .before .before .before .before .before .before .before .before .before .before .before .before .before .before .before .before) in
+    run-goes (sheet (c .before .before .before .before .before .before .before .before .before .before .before .before .before .before .before .before .before .before .before .before .before .before .before .before .before .before .before .before .before)) (arrays (c .before .before .before .before .before .before .before .before .before .before .before .before .before .before .before .before .before .before .before .before .before .before .before .before .before .before .before .before .before)) (now (c .before .before .before .before .before .before .before .before .before .before .before .before .before .before .before .before .before .before .before .before .before .before .before .before .before .before .before .before .before .args .answers)) (c .before .before .before .before .before .before .before .before .before .before .before .before .before .before .before .before .before .before .before .before .before .before .before .before .before .before .before .before .before .args .p) (c .before .before .before .before .before .before .before .before .before .before .before .before .before .before .before .before .before .before .before .before .before .before .before .before .before .before .before .before .before .args .s) (c .before .before .before .before .before .before .before .before .before .before .before .before .before .before .before .before .before .before .before .before .before .before .before .before .before .before .before .before .before .args .budget) (c .before .before .before .before .before .before .before .before .before .before .before .before .before .before .before .before .before .size-at2 .result) _ _ _ _ _ _ _ _ (toZ-pos w32 (c .before .before .before .before .before .before .before .before .before .before .go .result .p) (omega (arith, c .before .before .before .before .before .before .before .before .before .before .go .ensures .2, c .before .before .before .before .before .before .before .before .before .before .before .before .before .before .before .before .before .size-at2 .ensures .1))) (toZ-pos w32 (c .before .before .before .before .before .before .before .before .before .before .go .result .s) (c .before .before .before .before .before .before .before .before .before .before .go .ensures .3)) z n
+    (c .before .before .before .before .before .before .before .before .before .before .go .ensures .0 ∙ (λ i. iterate (c .before .before .before .before .before .before .before .before .before .before .before .before .before .before .before .before .before .size-at2 .result) (act (sheet (c .before .before .before .before .before .before .before .before .before .before .before .before .before .before .before .before .before .before .before .before .before .before .before .before .before .before .before .before .before))) (c .before .before .before .before .before .before .before .before .before .before .before .before .before .before .before .before .before .before .before .before .before .before .before .before .before .before .before .before .before .args .budget) (begin (arrays (c .before .before .before .before .before .before .before .before .before .before .before .before .before .before .before .before .before .before .before .before .before .before .before .before .before .before .before .before .before)) (now (c .before .before .before .before .before .before .before .before .before .before .before .before .before .before .before .before .before .before .before .before .before .before .before .before .before .before .before .before .before .args .answers)) (q i) (u i))))
+    (c .before .before .before .before .before .before .before .before .before .before .go .ensures .1 ∙ (λ i. made (c .before .before .before .before .before .before .before .before .before .before .before .before .before .before .before .before .before .size-at2 .result) (act (sheet (c .before .before .before .before .before .before .before .before .before .before .before .before .before .before .before .before .before .before .before .before .before .before .before .before .before .before .before .before .before))) (c .before .before .before .before .before .before .before .before .before .before .before .before .before .before .before .before .before .before .before .before .before .before .before .before .before .before .before .before .before .args .budget) (begin (arrays (c .before .before .before .before .before .before .before .before .before .before .before .before .before .before .before .before .before .before .before .before .before .before .before .before .before .before .before .before .before)) (now (c .before .before .before .before .before .before .before .before .before .before .before .before .before .before .before .before .before .before .before .before .before .before .before .before .before .before .before .before .before .args .answers)) (q i) (u i))))
+    (toZ-ofZ w32 (c .before .before .before .before .before .before .before .before .before .before .go .result .zero) (record { sfits = c .before .before .before .before .before .before .before .before .before .before .go .ok .1 .1 .1 .1 .1 .0 .1 }) ∙ c .before .before .before .before .before .before .before .before .before .before .go .ensures .4 ∙ (λ i. reported (c .before .before .before .before .before .before .before .before .before .before .before .before .before .before .before .before .before .size-at2 .result) (act (sheet (c .before .before .before .before .before .before .before .before .before .before .before .before .before .before .before .before .before .before .before .before .before .before .before .before .before .before .before .before .before))) (c .before .before .before .before .before .before .before .before .before .before .before .before .before .before .before .before .before .before .before .before .before .before .before .before .before .before .before .before .before .args .budget) (begin (arrays (c .before .before .before .before .before .before .before .before .before .before .before .before .before .before .before .before .before .before .before .before .before .before .before .before .before .before .before .before .before)) (now (c .before .before .before .before .before .before .before .before .before .before .before .before .before .before .before .before .before .before .before .before .before .before .before .before .before .before .before .before .before .args .answers)) (q i) (u i))))
 
 pub run-spec : {M : Type 1} → statement M
 run-spec =

@@ -2,21 +2,22 @@
 -- Assumes nothing.
 use Prim.Native.Nat.{suc, _+_, _*_, _^_, _<_}
 use mathlib.Core.Path.{_≡_, refl, ap, subst, _∙_}
+use mathlib.Core.Bool.{not}
 use lib.IntN.{ℤ}
 use lib.ListN.{set}
 use denote.Ref.{now}
 use mir.Syntax.{w32}
 use mir.ValLaws.{toZ-pos}
 use Rattle.definitions.specs.Call.{extent}
-use Rattle.definitions.specs.Check.{width}
+use Rattle.definitions.specs.Check.{negative, width}
 use Rattle.definitions.specs.Sheet.{Sheet, Arrays, field, widthOf, stripDone}
 use Rattle.definitions.specs.Run.{begin}
 use Rattle.definitions.proofs.Strips.{strips-positive}
 use Rattle.records.specs.Judgement.{sheetOf, arraysOf, extentOf}
 use Rattle.records.specs.declared.Judged.{Judged}
 use Rattle.records.proofs.Judgements.{word-is}
-use Rattle.records.proofs.Acts.{number-small, step-rejected, accepted-step, accepted-strips, none-act, work-act, none-known, none-strip, work-known, work-ready, work-begins, strip-small}
-use Rattle.sheet.proofs.Strips.{record-lends, record-strip}
+use Rattle.records.proofs.Acts.{number-small, step-rejected, rejected-counts, accepted-step, accepted-strips, none-act, work-act, none-known, none-strip, none-reports, work-known, work-ready, work-begins, strip-small}
+use Rattle.sheet.proofs.Strips.{record-lends, record-strip, record-zero}
 use Rattle.sheet.proofs.Steps.{strip-now, next-small}
 use native.Mathlib.Omega.{arith}
 use borrow.Author.Needs.{needs}
@@ -57,14 +58,14 @@ enum-known-v c = search needs
 cast-answers : tie.Need-cast-answers
 cast-answers c = record { sfits = omega (arith, number-small (sheet (c .before .before .before .before .before .before .before .before)) (c .before .before .before .before .before .before .before .before .args .p) (arrays (c .before .before .before .before .before .before .before .before)) (c .before .before .before .judge .result) (c .before .before .before .judge .ensures .0) _ (c .before .v .given .1)) }
 
-mul-t22 : tie.Need-mul-t22
-mul-t22 c = search needs
+mul-t23 : tie.Need-mul-t23
+mul-t23 c = search needs
 
 slice-set-from-answers : tie.Need-slice-set-from-answers
 slice-set-from-answers c = search needs
 
-add-t22 : tie.Need-add-t22
-add-t22 c = search needs
+add-t23 : tie.Need-add-t23
+add-t23 c = search needs
 
 enum-known-v-2 : tie.Need-enum-known-v-2
 enum-known-v-2 c = search needs
@@ -117,6 +118,7 @@ returns c = (
   ap (λ (z : ℤ). begin (arrays (c .before .before .before .before .before .before .before .before)) (set (now (c .before .before .before .before .before .before .before .before .args .answers)) (c .before .before .before .before .before .before .before .before .args .p) z) (c .before .before .before .before .before .before .before .before .args .p + 1) 0) (toZ-pos w32 (c .before .v .given .0 .0) (let b = number-small (sheet (c .before .before .before .before .before .before .before .before)) (c .before .before .before .before .before .before .before .before .args .p) (arrays (c .before .before .before .before .before .before .before .before)) (c .before .before .before .judge .result) (c .before .before .before .judge .ensures .0) _ (c .before .v .given .1) in omega arith))
       ∙ step-rejected (sheet (c .before .before .before .before .before .before .before .before)) (c .before .before .before .before .before .before .before .before .args .p) (arrays (c .before .before .before .before .before .before .before .before)) (c .before .before .before .judge .result) (c .before .before .before .judge .ensures .0) _ (c .before .v .given .1) (now (c .before .before .before .before .before .before .before .before .args .answers)) (c .before .before .before .before .before .before .before .before .args .s),
   omega arith,
+  rejected-counts (sheet (c .before .before .before .before .before .before .before .before)) (c .before .before .before .before .before .before .before .before .args .p) (arrays (c .before .before .before .before .before .before .before .before)) (c .before .before .before .judge .result) (c .before .before .before .judge .ensures .0) _ (c .before .v .given .1) _,
 )
 
 same-length-2 : tie.Need-same-length-2
@@ -127,10 +129,12 @@ unfolding extentOf
 returns-2 c =
     let h = c .before .before .before .before .before .before .before .v2 .given .1 in
     let w = none-known (sheet (c .before .before .before .before .before .before .before .before .before .before .before .before .before .before)) (c .before .before .before .before .before .before .before .before .before .before .before .before .before .before .args .p) (arrays (c .before .before .before .before .before .before .before .before .before .before .before .before .before .before)) (c .before .before .before .before .before .before .before .before .before .judge .result) (c .before .before .before .before .before .before .before .before .before .judge .ensures .0) _ h .wide in
-    let e = idle-width (c .before .before .before .before) in (
-      accepted-step (sheet (c .before .before .before .before .before .before .before .before .before .before .before .before .before .before)) (c .before .before .before .before .before .before .before .before .before .before .before .before .before .before .args .p) (arrays (c .before .before .before .before .before .before .before .before .before .before .before .before .before .before)) (c .before .before .before .before .before .before .before .before .before .judge .result) (c .before .before .before .before .before .before .before .before .before .judge .ensures .0) _ _ e (none-act (sheet (c .before .before .before .before .before .before .before .before .before .before .before .before .before .before)) (c .before .before .before .before .before .before .before .before .before .before .before .before .before .before .args .p) (arrays (c .before .before .before .before .before .before .before .before .before .before .before .before .before .before)) (c .before .before .before .before .before .before .before .before .before .judge .result) (c .before .before .before .before .before .before .before .before .before .judge .ensures .0) _ h) _ (c .before .before .strips .ensures) _ _ (c .before .advance .ensures .0 _ (arrays (c .before .before .before .before .before .before .before .before .before .before .before .before .before .before)) (arrays (c .before .before .before .before .before .before .before .before .before .before .before .before .before .before)) (none-strip (sheet (c .before .before .before .before .before .before .before .before .before .before .before .before .before .before)) (c .before .before .before .before .before .before .before .before .before .before .before .before .before .before .args .p) (arrays (c .before .before .before .before .before .before .before .before .before .before .before .before .before .before)) (c .before .before .before .before .before .before .before .before .before .judge .result) (c .before .before .before .before .before .before .before .before .before .judge .ensures .0) _ h (c .before .before .before .before .before .before .before .before .before .before .before .before .before .before .args .s))),
+    let e = idle-width (c .before .before .before .before) in
+    let a = accepted-step (sheet (c .before .before .before .before .before .before .before .before .before .before .before .before .before .before)) (c .before .before .before .before .before .before .before .before .before .before .before .before .before .before .args .p) (arrays (c .before .before .before .before .before .before .before .before .before .before .before .before .before .before)) (c .before .before .before .before .before .before .before .before .before .judge .result) (c .before .before .before .before .before .before .before .before .before .judge .ensures .0) _ _ e (none-act (sheet (c .before .before .before .before .before .before .before .before .before .before .before .before .before .before)) (c .before .before .before .before .before .before .before .before .before .before .before .before .before .before .args .p) (arrays (c .before .before .before .before .before .before .before .before .before .before .before .before .before .before)) (c .before .before .before .before .before .before .before .before .before .judge .result) (c .before .before .before .before .before .before .before .before .before .judge .ensures .0) _ h) _ (c .before .before .strips .ensures) _ _ _ (c .before .advance .ensures .0 _ _ (arrays (c .before .before .before .before .before .before .before .before .before .before .before .before .before .before)) (arrays (c .before .before .before .before .before .before .before .before .before .before .before .before .before .before)) (none-strip (sheet (c .before .before .before .before .before .before .before .before .before .before .before .before .before .before)) (c .before .before .before .before .before .before .before .before .before .before .before .before .before .before .args .p) (arrays (c .before .before .before .before .before .before .before .before .before .before .before .before .before .before)) (c .before .before .before .before .before .before .before .before .before .judge .result) (c .before .before .before .before .before .before .before .before .before .judge .ensures .0) _ h (c .before .before .before .before .before .before .before .before .before .before .before .before .before .before .args .s)) (none-reports (sheet (c .before .before .before .before .before .before .before .before .before .before .before .before .before .before)) (c .before .before .before .before .before .before .before .before .before .before .before .before .before .before .args .p) (arrays (c .before .before .before .before .before .before .before .before .before .before .before .before .before .before)) (c .before .before .before .before .before .before .before .before .before .judge .result) (c .before .before .before .before .before .before .before .before .before .judge .ensures .0) _ h)) in (
+      a .0,
       next-small _ _ _ _ (c .before .advance .ensures .1)
           (λ b. strip-small _ _ _ _ (omega (arith, e, w)) (subst (λ (v : Judged). extentOf v < 2 ^ 31) h (c .before .before .before .before .before .before .before .before .before .judge .ensures .1)) (subst (λ n. suc (c .before .before .before .before .before .before .before .before .before .before .before .before .before .before .args .s) < n) (c .before .before .strips .ensures) b)) (omega arith),
+      a .1,
     )
 
 same-length-3 : tie.Need-same-length-3
@@ -151,12 +155,15 @@ returns-3 c =
     let h = c .before .before .before .before .before .before .before .before .before .before .before .before .before .before .before .before .before .before .before .v3 .given .1 in
     let k = work-known (sheet (c .before .before .before .before .before .before .before .before .before .before .before .before .before .before .before .before .before .before .before .before .before .before .before .before .before .before)) (c .before .before .before .before .before .before .before .before .before .before .before .before .before .before .before .before .before .before .before .before .before .before .before .before .before .before .args .p) (arrays (c .before .before .before .before .before .before .before .before .before .before .before .before .before .before .before .before .before .before .before .before .before .before .before .before .before .before)) (c .before .before .before .before .before .before .before .before .before .before .before .before .before .before .before .before .before .before .before .before .before .judge .result) (c .before .before .before .before .before .before .before .before .before .before .before .before .before .before .before .before .before .before .before .before .before .judge .ensures .0) _ h in
     let e = work-width (c .before .before .before .before .before .before .before .before .before .before .before .before .before .before .before .before) in
-    let made = c .before .before .before .before .before .before .before .before .before .before .work .ensures
+    let made = c .before .before .before .before .before .before .before .before .before .before .work .ensures .0
     ∙ record-strip (sheet (c .before .before .before .before .before .before .before .before .before .before .before .before .before .before .before .before .before .before .before .before .before .before .before .before .before .before)) _ (c .before .before .before .before .before .before .before .before .before .before .before .before .before .before .before .before .before .before .before .before .before .before .before .before .before .before .args .p) (c .before .before .before .before .before .before .before .before .before .before .before .before .before .before .before .before .before .before .before .before .before .before .before .before .before .before .args .at) refl (c .before .before .before .before .before .before .before .before .before .before .before .before .before .before .before .before .before .before .before .before .before .before .before .before .before .before .pre .0 .0 .0) (arrays (c .before .before .before .before .before .before .before .before .before .before .before .before .before .before .before .before .before .before .before .before .before .before .before .before .before .before)) (c .before .before .before .before .before .before .before .before .before .before .before .before .before .before .before .before .before .before .before .v3 .given .0 .0) (k .accepts) (k .call-is) (work-ready (sheet (c .before .before .before .before .before .before .before .before .before .before .before .before .before .before .before .before .before .before .before .before .before .before .before .before .before .before)) (c .before .before .before .before .before .before .before .before .before .before .before .before .before .before .before .before .before .before .before .before .before .before .before .before .before .before .args .p) (arrays (c .before .before .before .before .before .before .before .before .before .before .before .before .before .before .before .before .before .before .before .before .before .before .before .before .before .before)) (c .before .before .before .before .before .before .before .before .before .before .before .before .before .before .before .before .before .before .before .before .before .judge .result) (c .before .before .before .before .before .before .before .before .before .before .before .before .before .before .before .before .before .before .before .before .before .judge .ensures .0) _ h) (c .before .before .before .before .before .before .before .before .before .before .before .before .before .before .before .before .before .before .before .before .before .before .before .before .before .before .args .s) _ (begins (c .before .before .before .before .before .before .before .before .before .before .before .before .before .before))
-    ∙ ap (λ w. stripDone (sheet (c .before .before .before .before .before .before .before .before .before .before .before .before .before .before .before .before .before .before .before .before .before .before .before .before .before .before)) (c .before .before .before .before .before .before .before .before .before .before .before .before .before .before .before .before .before .before .before .before .before .before .before .before .before .before .args .p) (c .before .before .before .before .before .before .before .before .before .before .before .before .before .before .before .before .before .before .before .v3 .given .0 .0 .routine) (c .before .before .before .before .before .before .before .before .before .before .before .before .before .before .before .before .before .before .before .v3 .given .0 .0) (c .before .before .before .before .before .before .before .before .before .before .before .before .before .before .before .before .before .before .before .before .before .before .before .before .before .before .args .s * w) (suc (c .before .before .before .before .before .before .before .before .before .before .before .before .before .before .before .before .before .before .before .before .before .before .before .before .before .before .args .s) * w) (arrays (c .before .before .before .before .before .before .before .before .before .before .before .before .before .before .before .before .before .before .before .before .before .before .before .before .before .before))) e in (
-      accepted-step (sheet (c .before .before .before .before .before .before .before .before .before .before .before .before .before .before .before .before .before .before .before .before .before .before .before .before .before .before)) (c .before .before .before .before .before .before .before .before .before .before .before .before .before .before .before .before .before .before .before .before .before .before .before .before .before .before .args .p) (arrays (c .before .before .before .before .before .before .before .before .before .before .before .before .before .before .before .before .before .before .before .before .before .before .before .before .before .before)) (c .before .before .before .before .before .before .before .before .before .before .before .before .before .before .before .before .before .before .before .before .before .judge .result) (c .before .before .before .before .before .before .before .before .before .before .before .before .before .before .before .before .before .before .before .before .before .judge .ensures .0) _ _ e (work-act (sheet (c .before .before .before .before .before .before .before .before .before .before .before .before .before .before .before .before .before .before .before .before .before .before .before .before .before .before)) (c .before .before .before .before .before .before .before .before .before .before .before .before .before .before .before .before .before .before .before .before .before .before .before .before .before .before .args .p) (arrays (c .before .before .before .before .before .before .before .before .before .before .before .before .before .before .before .before .before .before .before .before .before .before .before .before .before .before)) (c .before .before .before .before .before .before .before .before .before .before .before .before .before .before .before .before .before .before .before .before .before .judge .result) (c .before .before .before .before .before .before .before .before .before .before .before .before .before .before .before .before .before .before .before .before .before .judge .ensures .0) _ h) _ (c .before .before .strips2 .ensures) _ _ (c .before .advance2 .ensures .0 _ (arrays (c .before .before .before .before .before .before .before .before .before .before .before .before .before .before .before .before .before .before .before .before .before .before .before .before .before .before)) _ made),
+    ∙ ap (λ w. stripDone (sheet (c .before .before .before .before .before .before .before .before .before .before .before .before .before .before .before .before .before .before .before .before .before .before .before .before .before .before)) (c .before .before .before .before .before .before .before .before .before .before .before .before .before .before .before .before .before .before .before .before .before .before .before .before .before .before .args .p) (c .before .before .before .before .before .before .before .before .before .before .before .before .before .before .before .before .before .before .before .v3 .given .0 .0 .routine) (c .before .before .before .before .before .before .before .before .before .before .before .before .before .before .before .before .before .before .before .v3 .given .0 .0) (c .before .before .before .before .before .before .before .before .before .before .before .before .before .before .before .before .before .before .before .before .before .before .before .before .before .before .args .s * w) (suc (c .before .before .before .before .before .before .before .before .before .before .before .before .before .before .before .before .before .before .before .before .before .before .before .before .before .before .args .s) * w) (arrays (c .before .before .before .before .before .before .before .before .before .before .before .before .before .before .before .before .before .before .before .before .before .before .before .before .before .before))) e in
+    let zero = c .before .before .before .before .before .before .before .before .before .before .work .ensures .1 ∙ ap (λ z. not (negative z)) (record-zero (sheet (c .before .before .before .before .before .before .before .before .before .before .before .before .before .before .before .before .before .before .before .before .before .before .before .before .before .before)) _ (c .before .before .before .before .before .before .before .before .before .before .before .before .before .before .before .before .before .before .before .before .before .before .before .before .before .before .args .p) (c .before .before .before .before .before .before .before .before .before .before .before .before .before .before .before .before .before .before .before .before .before .before .before .before .before .before .args .at) refl (c .before .before .before .before .before .before .before .before .before .before .before .before .before .before .before .before .before .before .before .before .before .before .before .before .before .before .pre .0 .0 .0) (arrays (c .before .before .before .before .before .before .before .before .before .before .before .before .before .before .before .before .before .before .before .before .before .before .before .before .before .before)) (c .before .before .before .before .before .before .before .before .before .before .before .before .before .before .before .before .before .before .before .v3 .given .0 .0) (k .accepts) (k .call-is) (work-ready (sheet (c .before .before .before .before .before .before .before .before .before .before .before .before .before .before .before .before .before .before .before .before .before .before .before .before .before .before)) (c .before .before .before .before .before .before .before .before .before .before .before .before .before .before .before .before .before .before .before .before .before .before .before .before .before .before .args .p) (arrays (c .before .before .before .before .before .before .before .before .before .before .before .before .before .before .before .before .before .before .before .before .before .before .before .before .before .before)) (c .before .before .before .before .before .before .before .before .before .before .before .before .before .before .before .before .before .before .before .before .before .judge .result) (c .before .before .before .before .before .before .before .before .before .before .before .before .before .before .before .before .before .before .before .before .before .judge .ensures .0) _ h)) in
+    let a = accepted-step (sheet (c .before .before .before .before .before .before .before .before .before .before .before .before .before .before .before .before .before .before .before .before .before .before .before .before .before .before)) (c .before .before .before .before .before .before .before .before .before .before .before .before .before .before .before .before .before .before .before .before .before .before .before .before .before .before .args .p) (arrays (c .before .before .before .before .before .before .before .before .before .before .before .before .before .before .before .before .before .before .before .before .before .before .before .before .before .before)) (c .before .before .before .before .before .before .before .before .before .before .before .before .before .before .before .before .before .before .before .before .before .judge .result) (c .before .before .before .before .before .before .before .before .before .before .before .before .before .before .before .before .before .before .before .before .before .judge .ensures .0) _ _ e (work-act (sheet (c .before .before .before .before .before .before .before .before .before .before .before .before .before .before .before .before .before .before .before .before .before .before .before .before .before .before)) (c .before .before .before .before .before .before .before .before .before .before .before .before .before .before .before .before .before .before .before .before .before .before .before .before .before .before .args .p) (arrays (c .before .before .before .before .before .before .before .before .before .before .before .before .before .before .before .before .before .before .before .before .before .before .before .before .before .before)) (c .before .before .before .before .before .before .before .before .before .before .before .before .before .before .before .before .before .before .before .before .before .judge .result) (c .before .before .before .before .before .before .before .before .before .before .before .before .before .before .before .before .before .before .before .before .before .judge .ensures .0) _ h) _ (c .before .before .strips2 .ensures) _ _ _ (c .before .advance2 .ensures .0 _ _ (arrays (c .before .before .before .before .before .before .before .before .before .before .before .before .before .before .before .before .before .before .before .before .before .before .before .before .before .before)) _ made zero) in (
+      a .0,
       next-small _ _ _ _ (c .before .advance2 .ensures .1)
           (λ b. strip-small _ _ _ _ (omega (arith, e, k .wide)) (subst (λ (v : Judged). extentOf v < 2 ^ 31) h (c .before .before .before .before .before .before .before .before .before .before .before .before .before .before .before .before .before .before .before .before .before .judge .ensures .1)) (subst (λ n. suc (c .before .before .before .before .before .before .before .before .before .before .before .before .before .before .before .before .before .before .before .before .before .before .before .before .before .before .args .s) < n) (c .before .before .strips2 .ensures) b)) (omega arith),
+      a .1,
     )
 
 pub step-spec : {M : Type 1} → statement M
@@ -166,9 +173,9 @@ step-spec =
     judge-requires
     enum-known-v
     cast-answers
-    mul-t22
+    mul-t23
     slice-set-from-answers
-    add-t22
+    add-t23
     enum-known-v-2
     word-requires
     width-requires

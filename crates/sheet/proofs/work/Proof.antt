@@ -2,10 +2,14 @@
 -- Assumes nothing.
 use Prim.Native.Nat.{_+_, _-_, _*_}
 use mathlib.Core.Path.{_≡_, ap, _∙_}
+use mathlib.Core.Bool.{not}
 use denote.Ref.{now}
+use mir.Syntax.{w32}
+use mir.ValLaws.{toZ-ofZ}
+use Rattle.definitions.specs.Check.{negative}
 use Rattle.definitions.specs.Sheet.{output}
 use Rattle.records.specs.Judgement.{arraysOf, second, partAt}
-use Rattle.sheet.specs.Lent.{least, stripAt}
+use Rattle.sheet.specs.Lent.{least, stripAt, zeroAt}
 use Rattle.sheet.proofs.Strips.{least-is, lends-same}
 use native.Mathlib.Omega.{arith}
 use borrow.Author.Needs.{needs}
@@ -58,6 +62,9 @@ put-requires c κs =
       ),
     )
 
+negative-requires : tie.Need-negative-requires
+negative-requires c κs = search needs
+
 same-length : tie.Need-same-length
 same-length c = search needs
 
@@ -69,10 +76,12 @@ same-length-3 c = search needs
 
 returns : tie.Need-returns
 returns c =
-    let d = c .before .before .before .before .before .before .before .before .before .before .least .ensures ∙ ap (λ d. least (c .before .before .before .before .before .before .before .before .before .before .before .before .before .before .before .before .before .before .before .before .args .w) (d - c .before .before .before .before .before .before .before .before .before .before .before .before .before .before .before .before .before .before .before .before .args .s * c .before .before .before .before .before .before .before .before .before .before .before .before .before .before .before .before .before .before .before .before .args .w)) (c .before .before .before .before .before .before .before .before .before .before .before .extent .ensures .0) in
-    c .before .before .before .before .before .before .put .ensures
-    ∙ (λ i. stripAt (c .before .before .before .before .before .before .before .before .before .before .before .before .before .before .before .before .before .before .before .before .args .call) (output-at (c .before .before .before .before .before .before .before .before .before .before .before .before .before .before .before) i) (c .before .before .before .before .before .before .before .before .before .before .before .before .before .before .part-at2 .ensures i) (second-at (c .before .before .before .before .before .before .before .before .before .before .before .before) i) (c .before .before .before .before .before .before .before .before .before .before .before .before .before .before .before .before .before .before .before .before .args .s * c .before .before .before .before .before .before .before .before .before .before .before .before .before .before .before .before .before .before .before .before .args .w) (c .before .before .before .before .before .before .before .before .before .before .before .before .before .before .before .before .before .before .before .before .args .s * c .before .before .before .before .before .before .before .before .before .before .before .before .before .before .before .before .before .before .before .before .args .w + d i)
-    (arraysOf (now (c .before .before .before .before .before .before .before .before .before .before .before .before .before .before .before .before .before .before .before .before .args .x)) (now (c .before .before .before .before .before .before .before .before .before .before .before .before .before .before .before .before .before .before .before .before .args .y)) (now (c .before .before .before .before .before .before .before .before .before .before .before .before .before .before .before .before .before .before .before .before .args .z))))
+    let d = c .before .before .before .before .before .before .before .before .before .before .before .least .ensures ∙ ap (λ d. least (c .before .before .before .before .before .before .before .before .before .before .before .before .before .before .before .before .before .before .before .before .before .args .w) (d - c .before .before .before .before .before .before .before .before .before .before .before .before .before .before .before .before .before .before .before .before .before .args .s * c .before .before .before .before .before .before .before .before .before .before .before .before .before .before .before .before .before .before .before .before .before .args .w)) (c .before .before .before .before .before .before .before .before .before .before .before .before .extent .ensures .0) in (
+      c .before .before .before .before .before .before .before .put .ensures .0
+          ∙ (λ i. stripAt (c .before .before .before .before .before .before .before .before .before .before .before .before .before .before .before .before .before .before .before .before .before .args .call) (output-at (c .before .before .before .before .before .before .before .before .before .before .before .before .before .before .before .before) i) (c .before .before .before .before .before .before .before .before .before .before .before .before .before .before .before .part-at2 .ensures i) (second-at (c .before .before .before .before .before .before .before .before .before .before .before .before .before) i) (c .before .before .before .before .before .before .before .before .before .before .before .before .before .before .before .before .before .before .before .before .before .args .s * c .before .before .before .before .before .before .before .before .before .before .before .before .before .before .before .before .before .before .before .before .before .args .w) (c .before .before .before .before .before .before .before .before .before .before .before .before .before .before .before .before .before .before .before .before .before .args .s * c .before .before .before .before .before .before .before .before .before .before .before .before .before .before .before .before .before .before .before .before .before .args .w + d i)
+          (arraysOf (now (c .before .before .before .before .before .before .before .before .before .before .before .before .before .before .before .before .before .before .before .before .before .args .x)) (now (c .before .before .before .before .before .before .before .before .before .before .before .before .before .before .before .before .before .before .before .before .before .args .y)) (now (c .before .before .before .before .before .before .before .before .before .before .before .before .before .before .before .before .before .before .before .before .before .args .z)))),
+      ap not (c .negative .ensures ∙ ap negative (toZ-ofZ w32 (c .before .before .before .before .before .before .before .put .result) (record { sfits = c .before .before .before .before .before .before .before .put .ok }) ∙ c .before .before .before .before .before .before .before .put .ensures .1 ∙ ap (λ a. zeroAt (c .before .before .before .before .before .before .before .before .before .before .before .before .before .before .before .before .before .before .before .before .before .args .call) a (arraysOf (now (c .before .before .before .before .before .before .before .before .before .before .before .before .before .before .before .before .before .before .before .before .before .args .x)) (now (c .before .before .before .before .before .before .before .before .before .before .before .before .before .before .before .before .before .before .before .before .before .args .y)) (now (c .before .before .before .before .before .before .before .before .before .before .before .before .before .before .before .before .before .before .before .before .before .args .z)))) (c .before .before .before .before .before .before .before .before .before .before .before .before .before .before .before .part-at2 .ensures))),
+    )
 
 pub work-spec : {M : Type 1} → statement M
 work-spec =
@@ -88,6 +97,7 @@ work-spec =
     sub-least
     least-requires
     put-requires
+    negative-requires
     same-length
     same-length-2
     same-length-3

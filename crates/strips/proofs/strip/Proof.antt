@@ -1,13 +1,16 @@
 -- `strips::strip` lends the part of the output from the strip's start on to the routine's update.
 -- Assumes nothing.
 use Prim.Native.Nat.{_≤_}
-use mathlib.Core.Path.{refl}
+use mathlib.Core.Path.{refl, _∙_}
 use lib.ListN.{length}
 use denote.Ref.{now}
+use mir.Syntax.{w32}
+use mir.ValLaws.{toZ-ofZ}
 use Rattle.definitions.specs.Call.{inPlace}
+use Rattle.definitions.specs.Element.{zeroOf}
 use Rattle.definitions.specs.declared.Routine.the-variants.{Gemm, Symm, Syrk, Syr2k, Trmm, Trsm}
 use Rattle.arguments.specs.Strip.{stripStart}
-use Rattle.strips.proofs.Lent.{start-inside, put-strip, start-in-C, columns-of-C, fits-C, start-in-B, fits-B}
+use Rattle.strips.proofs.Lent.{start-inside, put-strip, start-in-C, columns-of-C, fits-C, start-in-B, fits-B, reports}
 use native.Mathlib.Omega.{arith}
 use borrow.Author.Needs.{needs}
 use Rattle.strips.proofs.strip.Statement.{statement}
@@ -86,43 +89,61 @@ same-length : tie.Need-same-length
 same-length c = search needs
 
 returns : tie.Need-returns
-unfolding inPlace
-returns c = put-strip (c .before .before .before .before .before .before .before .before .before .before .args .call) _ _ _ _ _ _ _ _ (inside (c .before .before .before .before .before .before)) (start-in-C Gemm (c .before .before .before .before .before .before .before .before .before .before .args .call) (c .before .before .before .enum-told .given .1) refl _ _ (c .before .before .before .before .before .before .strip-start .ensures)) (c .before .before .gemm-strip .ensures)
+unfolding inPlace zeroOf
+returns c = (
+  put-strip (c .before .before .before .before .before .before .before .before .before .before .args .call) _ _ _ _ _ _ _ _ (inside (c .before .before .before .before .before .before)) (start-in-C Gemm (c .before .before .before .before .before .before .before .before .before .before .args .call) (c .before .before .before .enum-told .given .1) refl _ _ (c .before .before .before .before .before .before .strip-start .ensures)) (c .before .before .gemm-strip .ensures),
+  reports Gemm (c .before .before .before .before .before .before .before .before .before .before .args .call) (c .before .before .before .enum-told .given .1) _ _ refl,
+)
 
 same-length-2 : tie.Need-same-length-2
 same-length-2 c = search needs
 
 returns-2 : tie.Need-returns-2
-unfolding inPlace
-returns-2 c = put-strip (c .before .before .before .before .before .before .before .before .before .before .args .call) _ _ _ _ _ _ _ _ (inside (c .before .before .before .before .before .before)) (start-in-C Symm (c .before .before .before .before .before .before .before .before .before .before .args .call) (c .before .before .before .enum-told2 .given .1) refl _ _ (c .before .before .before .before .before .before .strip-start .ensures)) (c .before .before .symm-strip .ensures)
+unfolding inPlace zeroOf
+returns-2 c = (
+  put-strip (c .before .before .before .before .before .before .before .before .before .before .args .call) _ _ _ _ _ _ _ _ (inside (c .before .before .before .before .before .before)) (start-in-C Symm (c .before .before .before .before .before .before .before .before .before .before .args .call) (c .before .before .before .enum-told2 .given .1) refl _ _ (c .before .before .before .before .before .before .strip-start .ensures)) (c .before .before .symm-strip .ensures),
+  reports Symm (c .before .before .before .before .before .before .before .before .before .before .args .call) (c .before .before .before .enum-told2 .given .1) _ _ refl,
+)
 
 same-length-3 : tie.Need-same-length-3
 same-length-3 c = search needs
 
 returns-3 : tie.Need-returns-3
-unfolding inPlace
-returns-3 c = put-strip (c .before .before .before .before .before .before .before .before .before .before .args .call) _ _ _ _ _ _ _ _ (inside (c .before .before .before .before .before .before)) (start-in-C Syrk (c .before .before .before .before .before .before .before .before .before .before .args .call) (c .before .before .before .enum-told3 .given .1) refl _ _ (c .before .before .before .before .before .before .strip-start .ensures)) (c .before .before .syrk-strip .ensures)
+unfolding inPlace zeroOf
+returns-3 c = (
+  put-strip (c .before .before .before .before .before .before .before .before .before .before .args .call) _ _ _ _ _ _ _ _ (inside (c .before .before .before .before .before .before)) (start-in-C Syrk (c .before .before .before .before .before .before .before .before .before .before .args .call) (c .before .before .before .enum-told3 .given .1) refl _ _ (c .before .before .before .before .before .before .strip-start .ensures)) (c .before .before .syrk-strip .ensures),
+  reports Syrk (c .before .before .before .before .before .before .before .before .before .before .args .call) (c .before .before .before .enum-told3 .given .1) _ _ refl,
+)
 
 same-length-4 : tie.Need-same-length-4
 same-length-4 c = search needs
 
 returns-4 : tie.Need-returns-4
-unfolding inPlace
-returns-4 c = put-strip (c .before .before .before .before .before .before .before .before .before .before .args .call) _ _ _ _ _ _ _ _ (inside (c .before .before .before .before .before .before)) (start-in-C Syr2k (c .before .before .before .before .before .before .before .before .before .before .args .call) (c .before .before .before .enum-told4 .given .1) refl _ _ (c .before .before .before .before .before .before .strip-start .ensures)) (c .before .before .syr2k-strip .ensures)
+unfolding inPlace zeroOf
+returns-4 c = (
+  put-strip (c .before .before .before .before .before .before .before .before .before .before .args .call) _ _ _ _ _ _ _ _ (inside (c .before .before .before .before .before .before)) (start-in-C Syr2k (c .before .before .before .before .before .before .before .before .before .before .args .call) (c .before .before .before .enum-told4 .given .1) refl _ _ (c .before .before .before .before .before .before .strip-start .ensures)) (c .before .before .syr2k-strip .ensures),
+  reports Syr2k (c .before .before .before .before .before .before .before .before .before .before .args .call) (c .before .before .before .enum-told4 .given .1) _ _ refl,
+)
 
 same-length-5 : tie.Need-same-length-5
 same-length-5 c = search needs
 
 returns-5 : tie.Need-returns-5
-unfolding inPlace
-returns-5 c = put-strip (c .before .before .before .before .before .before .before .before .before .before .args .call) _ _ _ _ _ _ _ _ (inside (c .before .before .before .before .before .before)) (start-in-B Trmm (c .before .before .before .before .before .before .before .before .before .before .args .call) (c .before .before .before .enum-told5 .given .1) refl _ _ (c .before .before .before .before .before .before .strip-start .ensures)) (c .before .before .trmm-strip .ensures _)
+unfolding inPlace zeroOf
+returns-5 c = (
+  put-strip (c .before .before .before .before .before .before .before .before .before .before .args .call) _ _ _ _ _ _ _ _ (inside (c .before .before .before .before .before .before)) (start-in-B Trmm (c .before .before .before .before .before .before .before .before .before .before .args .call) (c .before .before .before .enum-told5 .given .1) refl _ _ (c .before .before .before .before .before .before .strip-start .ensures)) (c .before .before .trmm-strip .ensures _),
+  reports Trmm (c .before .before .before .before .before .before .before .before .before .before .args .call) (c .before .before .before .enum-told5 .given .1) _ _ refl,
+)
 
 same-length-6 : tie.Need-same-length-6
 same-length-6 c = search needs
 
 returns-6 : tie.Need-returns-6
 unfolding inPlace
-returns-6 c = put-strip (c .before .before .before .before .before .before .before .before .before .before .args .call) _ _ _ _ _ _ _ _ (inside (c .before .before .before .before .before .before)) (start-in-B Trsm (c .before .before .before .before .before .before .before .before .before .before .args .call) (c .before .before .before .enum-told6 .given .1) refl _ _ (c .before .before .before .before .before .before .strip-start .ensures)) (c .before .before .trsm-strip .ensures _)
+returns-6 c = (
+  put-strip (c .before .before .before .before .before .before .before .before .before .before .args .call) _ _ _ _ _ _ _ _ (inside (c .before .before .before .before .before .before)) (start-in-B Trsm (c .before .before .before .before .before .before .before .before .before .before .args .call) (c .before .before .before .enum-told6 .given .1) refl _ _ (c .before .before .before .before .before .before .strip-start .ensures)) (c .before .before .trsm-strip .ensures .0 _),
+  reports Trsm (c .before .before .before .before .before .before .before .before .before .before .args .call) (c .before .before .before .enum-told6 .given .1) _ _ (toZ-ofZ w32 (c .before .before .trsm-strip .result) (record { sfits = c .before .before .trsm-strip .ok }) ∙ c .before .before .trsm-strip .ensures .1),
+)
 
 pub strip-spec : {M : Type 1} → statement M
 strip-spec =

@@ -1,12 +1,14 @@
 -- `solve_across` solves a diagonal block whose lines stand across: with its factors in a buffer the unknowns get the same values.
 -- Assumes nothing.
 use mathlib.Core.Bool.{false}
-use mathlib.Core.Path.{_∙_}
+use mathlib.Core.Path.{ap, _∙_}
 use Prim.Native.Nat.{_+_, _*_, _<_}
 use native.Mathlib.Omega.{arith}
 use lib.ListN.{length}
 use denote.Ref.{now}
 use Rattle.arrays.proofs.PartLaws.{tail-length}
+use Rattle.arrays.proofs.SearchLaws.{lowest-same}
+use Rattle.definitions.specs.Element.{byZero}
 use Rattle.packing.specs.Factor.{entryOf}
 use Rattle.forms.specs.Forms.{opForm}
 use Rattle.trsm.proofs.OrderLaws.{ordered-same}
@@ -58,11 +60,13 @@ same-length c = search needs
 
 returns : tie.Need-returns
 returns c =
-    let g = c .before .before .before .before .before .before .before .before .before .before .before .before .before .args in
-    c .before .before .before .solve-unknowns .ensures
-    ∙ ordered-same false (g .down) (g .ld) (g .n) (g .lines) _ _ (now (g .s)) (omega (arith, c .before .before .before .before .before .before .before .before .before .before .before .before .before .pre))
-    (λ q l hq hl x.
-    packed-is (g .left) (g .down) (g .n) (g .x0) (g .diag) (entryOf (opForm (g .t)) (now (g .a)) (g .lda)) _ _ _ (λ i h. diagonal-part (g .t) (now (g .a)) (g .lda) (g .x0) i) (c .before .before .before .before .before .before .before .before .before .matrix-factors .ensures) q hq)
+    let g = c .before .before .before .before .before .before .before .before .before .before .before .before .before .args in (
+      c .before .before .before .solve-unknowns .ensures .0
+          ∙ ordered-same false (g .down) (g .ld) (g .n) (g .lines) _ _ (now (g .s)) (omega (arith, c .before .before .before .before .before .before .before .before .before .before .before .before .before .pre))
+          (λ q l hq hl x.
+          packed-is (g .left) (g .down) (g .n) (g .x0) (g .diag) (entryOf (opForm (g .t)) (now (g .a)) (g .lda)) _ _ _ (λ i h. diagonal-part (g .t) (now (g .a)) (g .lda) (g .x0) i) (c .before .before .before .before .before .before .before .before .before .matrix-factors .ensures) q hq),
+      lowest-same _ _ (g .n) _ (λ i h. ap (byZero (g .diag)) (diagonal-part (g .t) (now (g .a)) (g .lda) (g .x0) i)) (c .before .before .before .solve-unknowns .ensures .1),
+    )
 
 pub solve-across-spec : {M : Type 1} → statement M
 solve-across-spec =

@@ -2,6 +2,7 @@
 -- Assumes nothing.
 use mathlib.Core.Path.{sym, _∙_}
 use denote.Ref.{now}
+use Rattle.arrays.proofs.SearchLaws.{lowest-none}
 use Rattle.packing.specs.Factor.{entryOf}
 use Rattle.forms.specs.Forms.{opForm}
 use Rattle.lines.proofs.GridLaws.{some-ld}
@@ -31,9 +32,11 @@ same-length c = search needs
 
 returns : tie.Need-returns
 returns c =
-    let g = c .before .before .before .before .before .before .before .before .before .before .args in
-    all-cleared (g .left) (g .down) (g .ld) (g .m) (g .lines) (g .diag) (g .alpha) (entryOf (opForm (g .t)) (now (g .a)) (g .lda)) (some-ld (g .left) (g .ld) (g .m) (g .lines) _ (omega (arith, c .before .before .before .before .before .before .before .before .before .before .pre)) (omega (arith, c .before .before .before .before .before .before .before .before .before .before .pre)) (c .before .before .before .before .before .before .before .before .before .before .pre .1 .0)) (now (g .b)) _ _ _ (c .before .before .before .before .before .before .before .pick .ensures) (c .before .before .before .before .before .before .pick2 .ensures)
-    (sym (c .before .before .before .before .before .is-zero .ensures) ∙ c .before .before .before .before .if1 .taken) (c .before .before .clear .ensures)
+    let g = c .before .before .before .before .before .before .before .before .before .before .args in (
+      all-cleared (g .left) (g .down) (g .ld) (g .m) (g .lines) (g .diag) (g .alpha) (entryOf (opForm (g .t)) (now (g .a)) (g .lda)) (some-ld (g .left) (g .ld) (g .m) (g .lines) _ (omega (arith, c .before .before .before .before .before .before .before .before .before .before .pre)) (omega (arith, c .before .before .before .before .before .before .before .before .before .before .pre)) (c .before .before .before .before .before .before .before .before .before .before .pre .1 .0)) (now (g .b)) _ _ _ (c .before .before .before .before .before .before .before .pick .ensures) (c .before .before .before .before .before .before .pick2 .ensures)
+          (sym (c .before .before .before .before .before .is-zero .ensures) ∙ c .before .before .before .before .if1 .taken) (c .before .before .clear .ensures),
+      lowest-none _ (g .m) (λ i h. rw (sym (c .before .before .before .before .before .is-zero .ensures) ∙ c .before .before .before .before .if1 .taken)),
+    )
 
 factor-requires : tie.Need-factor-requires
 factor-requires c κs = search needs
@@ -52,9 +55,11 @@ same-length-2 c = search needs
 
 returns-2 : tie.Need-returns-2
 returns-2 c =
-    let g = c .before .before .before .before .before .before .before .before .before .before .before .before .before .before .before .args in
-    all-done (g .left) (g .down) (g .ld) (g .m) (g .lines) (g .diag) (g .alpha) (entryOf (opForm (g .t)) (now (g .a)) (g .lda)) (some-ld (g .left) (g .ld) (g .m) (g .lines) _ (omega (arith, c .before .before .before .before .before .before .before .before .before .before .before .before .before .before .before .pre)) (omega (arith, c .before .before .before .before .before .before .before .before .before .before .before .before .before .before .before .pre)) (c .before .before .before .before .before .before .before .before .before .before .before .before .before .before .before .pre .1 .0)) (now (g .b)) _ _ _ (c .before .before .before .before .before .before .before .before .before .before .before .before .pick .ensures) (c .before .before .before .before .before .before .before .before .before .before .before .pick2 .ensures)
-    (sym (c .before .before .before .before .before .before .before .before .before .before .is-zero .ensures) ∙ c .before .before .before .before .before .before .before .before .before .if1 .left) _ _ (c .before .before .before .before .before .before .before .factor .ensures) (c .before .before .before .before .before .before .scale .ensures) (c .before .before .solve .ensures)
+    let g = c .before .before .before .before .before .before .before .before .before .before .before .before .before .before .before .args in (
+      all-done (g .left) (g .down) (g .ld) (g .m) (g .lines) (g .diag) (g .alpha) (entryOf (opForm (g .t)) (now (g .a)) (g .lda)) (some-ld (g .left) (g .ld) (g .m) (g .lines) _ (omega (arith, c .before .before .before .before .before .before .before .before .before .before .before .before .before .before .before .pre)) (omega (arith, c .before .before .before .before .before .before .before .before .before .before .before .before .before .before .before .pre)) (c .before .before .before .before .before .before .before .before .before .before .before .before .before .before .before .pre .1 .0)) (now (g .b)) _ _ _ (c .before .before .before .before .before .before .before .before .before .before .before .before .pick .ensures) (c .before .before .before .before .before .before .before .before .before .before .before .pick2 .ensures)
+          (sym (c .before .before .before .before .before .before .before .before .before .before .is-zero .ensures) ∙ c .before .before .before .before .before .before .before .before .before .if1 .left) _ _ (c .before .before .before .before .before .before .before .factor .ensures) (c .before .before .before .before .before .before .scale .ensures) (c .before .before .solve .ensures .0),
+      rw (sym (c .before .before .before .before .before .before .before .before .before .before .is-zero .ensures) ∙ c .before .before .before .before .before .before .before .before .before .if1 .left) (c .before .before .solve .ensures .1),
+    )
 
 pub solve-lines-spec : {M : Type 1} → statement M
 solve-lines-spec =

@@ -1,4 +1,5 @@
--- `solve_unknowns` solves the unknowns of a diagonal block: the first j have their values, and u has what their terms take.
+-- `solve_unknowns` solves the unknowns of a diagonal block: the first j have their values, u has what their terms take, and `zero` is the lowest index at which they
+-- were divided by zero.
 -- Assumes nothing.
 use mathlib.Core.Path.{_≡_, refl, ap, _∙_}
 use Prim.Native.Nat.{_≤_, _-_}
@@ -9,21 +10,23 @@ use Rattle.arrays.proofs.PartLaws.{tail-length, column-room}
 use Rattle.packing.specs.Factor.{entryOf, indexOf}
 use Rattle.packing.specs.declared.Form.the-variants.{Plain}
 use Rattle.trsm.proofs.AcrossLaws.{Solved, Kept, none-solved, none-kept, one-solved, one-kept, all-solved}
+use Rattle.trsm.proofs.ZeroLaws.{LowestZero, zero-none, zero-unknown, zero-all}
 use borrow.Author.Needs.{needs}
 use native.Mathlib.Omega.{arith}
 use Rattle.trsm.proofs.solve_unknowns.Statement.{statement}
 use Rattle.trsm.proofs.solve_unknowns.Tie as tie
 
 abbrev Inv-loop : tie.InvT-loop
-Inv-loop left down diag s₀ ld lines n a lda u₀ v j₀ s u j =
+Inv-loop left down diag s₀ ld lines n a lda u₀ v zero₀ j₀ s u zero j =
     (j ≤ n) × (length s ≡ length s₀) × (length u ≡ length u₀)
     × Solved left down ld n lines diag (entryOf Plain a lda) v s₀ u₀ j s × Kept left down ld n lines diag (entryOf Plain a lda) v s₀ u₀ j u
+    × LowestZero down n diag (entryOf Plain a lda) 0 j zero
 
 abbrev μ-loop : tie.MeasureT-loop
-μ-loop left down diag s₀ ld lines n a lda u₀ v j₀ s u j = n - j
+μ-loop left down diag s₀ ld lines n a lda u₀ v zero₀ j₀ s u zero j = n - j
 
 loop-holds : tie.Need-loop-holds Inv-loop μ-loop
-loop-holds c = (omega arith, refl, refl, none-solved (c .before .before .before .before .args .left) (c .before .before .before .before .args .down) (c .before .before .before .before .args .ld) (c .before .before .before .before .args .n) (c .before .before .before .before .args .lines) (c .before .before .before .before .args .diag) (entryOf Plain (now (c .before .before .before .before .args .a)) (c .before .before .before .before .args .lda)) (now (c .before .before .before .before .args .v)) (now (c .before .before .before .before .args .s)) (now (c .before .before .before .before .args .u)) (c .before .before .before .before .pre .0 .1) (c .before .before .before .before .pre .1) (omega arith, omega arith), none-kept (c .before .before .before .before .args .left) (c .before .before .before .before .args .down) (c .before .before .before .before .args .ld) (c .before .before .before .before .args .n) (c .before .before .before .before .args .lines) (c .before .before .before .before .args .diag) (entryOf Plain (now (c .before .before .before .before .args .a)) (c .before .before .before .before .args .lda)) (now (c .before .before .before .before .args .v)) (now (c .before .before .before .before .args .s)) (now (c .before .before .before .before .args .u)) (c .before .before .before .before .pre .0 .1) (c .before .before .before .before .pre .1) (omega arith, omega arith))
+loop-holds c = (omega arith, refl, refl, none-solved (c .before .before .before .before .args .left) (c .before .before .before .before .args .down) (c .before .before .before .before .args .ld) (c .before .before .before .before .args .n) (c .before .before .before .before .args .lines) (c .before .before .before .before .args .diag) (entryOf Plain (now (c .before .before .before .before .args .a)) (c .before .before .before .before .args .lda)) (now (c .before .before .before .before .args .v)) (now (c .before .before .before .before .args .s)) (now (c .before .before .before .before .args .u)) (c .before .before .before .before .pre .0 .1) (c .before .before .before .before .pre .1) (omega arith, omega arith), none-kept (c .before .before .before .before .args .left) (c .before .before .before .before .args .down) (c .before .before .before .before .args .ld) (c .before .before .before .before .args .n) (c .before .before .before .before .args .lines) (c .before .before .before .before .args .diag) (entryOf Plain (now (c .before .before .before .before .args .a)) (c .before .before .before .before .args .lda)) (now (c .before .before .before .before .args .v)) (now (c .before .before .before .before .args .s)) (now (c .before .before .before .before .args .u)) (c .before .before .before .before .pre .0 .1) (c .before .before .before .before .pre .1) (omega arith, omega arith), zero-none (c .before .before .before .before .args .down) (c .before .before .before .before .args .n) (c .before .before .before .before .args .diag) (entryOf Plain (now (c .before .before .before .before .args .a)) (c .before .before .before .before .args .lda)))
 
 turn-of-requires : tie.Need-turn-of-requires Inv-loop μ-loop
 turn-of-requires c κs = omega arith
@@ -97,6 +100,9 @@ part-value-factors-end-2 c = omega (arith, column-room (c .before .before .befor
 value-factors-requires : tie.Need-value-factors-requires Inv-loop μ-loop
 value-factors-requires c κs = (simp tail-length (omega (arith, c .before .before .before .before .before .before .before .before .before .before .before .before .before .before .before .before .pre, c .before .before .before .before .before .before .before .before .before .before .before .loop .inv, c .before .before .before .before .before .before .before .before .before .before .loop-test .taken)), simp tail-length (omega (arith, column-room (c .before .before .before .before .before .before .before .before .before .before .before .before .before .before .before .before .args .ld) (c .before .before .before .before .before .before .before .before .before .turn-of .ensures .1), c .before .before .before .before .before .before .before .before .before .before .before .before .before .before .before .before .pre, c .before .before .before .before .before .before .before .before .before .before .before .loop .inv, c .before .before .before .before .before .solve-unknown .kept)))
 
+lower-requires : tie.Need-lower-requires Inv-loop μ-loop
+lower-requires c κs = search needs
+
 add-j : tie.Need-add-j Inv-loop μ-loop
 add-j c = omega arith
 
@@ -106,9 +112,10 @@ loop-less c = search needs
 loop-again : tie.Need-loop-again Inv-loop μ-loop
 unfolding entryOf indexOf
 loop-again c =
-    let solved = one-solved (c .before .before .before .before .before .before .before .before .before .before .before .before .before .before .before .before .before .before .before .args .left) (c .before .before .before .before .before .before .before .before .before .before .before .before .before .before .before .before .before .before .before .args .down) (c .before .before .before .before .before .before .before .before .before .before .before .before .before .before .before .before .before .before .before .args .ld) (c .before .before .before .before .before .before .before .before .before .before .before .before .before .before .before .before .before .before .before .args .n) (c .before .before .before .before .before .before .before .before .before .before .before .before .before .before .before .before .before .before .before .args .lines) (c .before .before .before .before .before .before .before .before .before .before .before .before .before .before .before .before .before .before .before .args .diag) (entryOf Plain (now (c .before .before .before .before .before .before .before .before .before .before .before .before .before .before .before .before .before .before .before .args .a)) (c .before .before .before .before .before .before .before .before .before .before .before .before .before .before .before .before .before .before .before .args .lda)) (now (c .before .before .before .before .before .before .before .before .before .before .before .before .before .before .before .before .before .before .before .args .v)) (now (c .before .before .before .before .before .before .before .before .before .before .before .before .before .before .before .before .before .before .before .args .s)) (now (c .before .before .before .before .before .before .before .before .before .before .before .before .before .before .before .before .before .before .before .args .u)) (c .before .before .before .before .before .before .before .before .before .before .before .before .before .before .before .before .before .before .before .pre .0 .1) (c .before .before .before .before .before .before .before .before .before .before .before .before .before .before .before .before .before .before .before .pre .1) (omega (arith, c .before .before .before .before .before .before .before .before .before .before .before .before .before .before .before .before .before .before .before .pre), omega (arith, c .before .before .before .before .before .before .before .before .before .before .before .before .before .before .before .before .before .before .before .pre)) (c .before .before .before .before .before .before .before .before .before .before .before .before .before .before .loop .j) (c .before .before .before .before .before .before .before .before .before .before .before .before .turn-of .result) (c .before .before .before .before .before .before .before .before .before .before .before .before .before .before .loop .u) (c .before .before .before .before .before .before .before .before .before .before .before .before .before .before .loop .s) (c .before .before .before .before .before .before .before .before .before .before .before .before .before .loop-test .taken) (c .before .before .before .before .before .before .before .before .before .before .before .before .turn-of .ensures .0) (c .before .before .before .before .before .before .before .before .before .before .before .before .before .before .loop .inv .3) _ (c .before .before .before .before .before .before .before .before .before .before .before .before .before .before .loop .inv .4) (c .before .before .before .before .before .before .before .before .solve-unknown .ensures) in
-    let kept = one-kept (c .before .before .before .before .before .before .before .before .before .before .before .before .before .before .before .before .before .before .before .args .left) (c .before .before .before .before .before .before .before .before .before .before .before .before .before .before .before .before .before .before .before .args .down) (c .before .before .before .before .before .before .before .before .before .before .before .before .before .before .before .before .before .before .before .args .ld) (c .before .before .before .before .before .before .before .before .before .before .before .before .before .before .before .before .before .before .before .args .n) (c .before .before .before .before .before .before .before .before .before .before .before .before .before .before .before .before .before .before .before .args .lines) (c .before .before .before .before .before .before .before .before .before .before .before .before .before .before .before .before .before .before .before .args .diag) (entryOf Plain (now (c .before .before .before .before .before .before .before .before .before .before .before .before .before .before .before .before .before .before .before .args .a)) (c .before .before .before .before .before .before .before .before .before .before .before .before .before .before .before .before .before .before .before .args .lda)) (now (c .before .before .before .before .before .before .before .before .before .before .before .before .before .before .before .before .before .before .before .args .v)) (now (c .before .before .before .before .before .before .before .before .before .before .before .before .before .before .before .before .before .before .before .args .s)) (now (c .before .before .before .before .before .before .before .before .before .before .before .before .before .before .before .before .before .before .before .args .u)) (c .before .before .before .before .before .before .before .before .before .before .before .before .before .before .before .before .before .before .before .pre .0 .1) (c .before .before .before .before .before .before .before .before .before .before .before .before .before .before .before .before .before .before .before .pre .1) (omega (arith, c .before .before .before .before .before .before .before .before .before .before .before .before .before .before .before .before .before .before .before .pre), omega (arith, c .before .before .before .before .before .before .before .before .before .before .before .before .before .before .before .before .before .before .before .pre)) (c .before .before .before .before .before .before .before .before .before .before .before .before .before .before .loop .j) (c .before .before .before .before .before .before .before .before .before .before .before .before .turn-of .result) (c .before .before .before .before .before .before .before .before .before .before .before .before .before .before .loop .u) (c .before .before .before .before .before .before .before .before .before .before .before .before .before .before .loop .s) (c .before .before .before .before .before .before .before .before .before .before .before .before .before .loop-test .taken) (c .before .before .before .before .before .before .before .before .before .before .before .before .turn-of .ensures .0) (c .before .before .before .before .before .before .before .before .before .before .before .before .before .before .loop .inv .3) _ _ (c .before .before .before .before .before .before .before .before .before .before .before .before .before .before .loop .inv .4) solved (c .before .before .value-factors .ensures) in
-    (omega arith, ap length solved ∙ length-update _ _, ap length kept ∙ length-update _ _, solved, kept)
+    let solved = one-solved (c .before .before .before .before .before .before .before .before .before .before .before .before .before .before .before .before .before .before .before .before .args .left) (c .before .before .before .before .before .before .before .before .before .before .before .before .before .before .before .before .before .before .before .before .args .down) (c .before .before .before .before .before .before .before .before .before .before .before .before .before .before .before .before .before .before .before .before .args .ld) (c .before .before .before .before .before .before .before .before .before .before .before .before .before .before .before .before .before .before .before .before .args .n) (c .before .before .before .before .before .before .before .before .before .before .before .before .before .before .before .before .before .before .before .before .args .lines) (c .before .before .before .before .before .before .before .before .before .before .before .before .before .before .before .before .before .before .before .before .args .diag) (entryOf Plain (now (c .before .before .before .before .before .before .before .before .before .before .before .before .before .before .before .before .before .before .before .before .args .a)) (c .before .before .before .before .before .before .before .before .before .before .before .before .before .before .before .before .before .before .before .before .args .lda)) (now (c .before .before .before .before .before .before .before .before .before .before .before .before .before .before .before .before .before .before .before .before .args .v)) (now (c .before .before .before .before .before .before .before .before .before .before .before .before .before .before .before .before .before .before .before .before .args .s)) (now (c .before .before .before .before .before .before .before .before .before .before .before .before .before .before .before .before .before .before .before .before .args .u)) (c .before .before .before .before .before .before .before .before .before .before .before .before .before .before .before .before .before .before .before .before .pre .0 .1) (c .before .before .before .before .before .before .before .before .before .before .before .before .before .before .before .before .before .before .before .before .pre .1) (omega (arith, c .before .before .before .before .before .before .before .before .before .before .before .before .before .before .before .before .before .before .before .before .pre), omega (arith, c .before .before .before .before .before .before .before .before .before .before .before .before .before .before .before .before .before .before .before .before .pre)) (c .before .before .before .before .before .before .before .before .before .before .before .before .before .before .before .loop .j) (c .before .before .before .before .before .before .before .before .before .before .before .before .before .turn-of .result) (c .before .before .before .before .before .before .before .before .before .before .before .before .before .before .before .loop .u) (c .before .before .before .before .before .before .before .before .before .before .before .before .before .before .before .loop .s) (c .before .before .before .before .before .before .before .before .before .before .before .before .before .before .loop-test .taken) (c .before .before .before .before .before .before .before .before .before .before .before .before .before .turn-of .ensures .0) (c .before .before .before .before .before .before .before .before .before .before .before .before .before .before .before .loop .inv .3) _ (c .before .before .before .before .before .before .before .before .before .before .before .before .before .before .before .loop .inv .4) (c .before .before .before .before .before .before .before .before .before .solve-unknown .ensures .0) in
+    let kept = one-kept (c .before .before .before .before .before .before .before .before .before .before .before .before .before .before .before .before .before .before .before .before .args .left) (c .before .before .before .before .before .before .before .before .before .before .before .before .before .before .before .before .before .before .before .before .args .down) (c .before .before .before .before .before .before .before .before .before .before .before .before .before .before .before .before .before .before .before .before .args .ld) (c .before .before .before .before .before .before .before .before .before .before .before .before .before .before .before .before .before .before .before .before .args .n) (c .before .before .before .before .before .before .before .before .before .before .before .before .before .before .before .before .before .before .before .before .args .lines) (c .before .before .before .before .before .before .before .before .before .before .before .before .before .before .before .before .before .before .before .before .args .diag) (entryOf Plain (now (c .before .before .before .before .before .before .before .before .before .before .before .before .before .before .before .before .before .before .before .before .args .a)) (c .before .before .before .before .before .before .before .before .before .before .before .before .before .before .before .before .before .before .before .before .args .lda)) (now (c .before .before .before .before .before .before .before .before .before .before .before .before .before .before .before .before .before .before .before .before .args .v)) (now (c .before .before .before .before .before .before .before .before .before .before .before .before .before .before .before .before .before .before .before .before .args .s)) (now (c .before .before .before .before .before .before .before .before .before .before .before .before .before .before .before .before .before .before .before .before .args .u)) (c .before .before .before .before .before .before .before .before .before .before .before .before .before .before .before .before .before .before .before .before .pre .0 .1) (c .before .before .before .before .before .before .before .before .before .before .before .before .before .before .before .before .before .before .before .before .pre .1) (omega (arith, c .before .before .before .before .before .before .before .before .before .before .before .before .before .before .before .before .before .before .before .before .pre), omega (arith, c .before .before .before .before .before .before .before .before .before .before .before .before .before .before .before .before .before .before .before .before .pre)) (c .before .before .before .before .before .before .before .before .before .before .before .before .before .before .before .loop .j) (c .before .before .before .before .before .before .before .before .before .before .before .before .before .turn-of .result) (c .before .before .before .before .before .before .before .before .before .before .before .before .before .before .before .loop .u) (c .before .before .before .before .before .before .before .before .before .before .before .before .before .before .before .loop .s) (c .before .before .before .before .before .before .before .before .before .before .before .before .before .before .loop-test .taken) (c .before .before .before .before .before .before .before .before .before .before .before .before .before .turn-of .ensures .0) (c .before .before .before .before .before .before .before .before .before .before .before .before .before .before .before .loop .inv .3) _ _ (c .before .before .before .before .before .before .before .before .before .before .before .before .before .before .before .loop .inv .4) solved (c .before .before .before .value-factors .ensures) in
+    let zero = zero-unknown (c .before .before .before .before .before .before .before .before .before .before .before .before .before .before .before .before .before .before .before .before .args .down) (c .before .before .before .before .before .before .before .before .before .before .before .before .before .before .before .before .before .before .before .before .args .n) (c .before .before .before .before .before .before .before .before .before .before .before .before .before .before .before .before .before .before .before .before .args .diag) (entryOf Plain (now (c .before .before .before .before .before .before .before .before .before .before .before .before .before .before .before .before .before .before .before .before .args .a)) (c .before .before .before .before .before .before .before .before .before .before .before .before .before .before .before .before .before .before .before .before .args .lda)) (c .before .before .before .before .before .before .before .before .before .before .before .before .before .before .before .loop .j) (c .before .before .before .before .before .before .before .before .before .before .before .before .before .turn-of .result) (c .before .before .before .before .before .before .before .before .before .before .before .before .before .before .before .loop .zero) (c .lower .result) _ (c .before .before .before .before .before .before .before .before .before .before .before .before .before .before .loop-test .taken) (c .before .before .before .before .before .before .before .before .before .before .before .before .before .turn-of .ensures .0) (c .before .before .before .before .before .before .before .before .before .before .before .before .before .before .before .loop .inv .5) (c .before .before .before .before .before .before .before .before .before .solve-unknown .ensures .1) (c .lower .ensures) in
+    (omega arith, ap length solved ∙ length-update _ _, ap length kept ∙ length-update _ _, solved, kept, zero)
 
 same-length : tie.Need-same-length Inv-loop μ-loop
 same-length c = omega arith
@@ -119,7 +126,7 @@ same-length-2 c = omega arith
 returns : tie.Need-returns Inv-loop μ-loop
 returns c =
     let e : c .before .loop .j ≡ c .before .before .before .before .before .before .args .n = omega arith in
-    all-solved (c .before .before .before .before .before .before .args .left) (c .before .before .before .before .before .before .args .down) (c .before .before .before .before .before .before .args .ld) (c .before .before .before .before .before .before .args .n) (c .before .before .before .before .before .before .args .lines) (c .before .before .before .before .before .before .args .diag) (entryOf Plain (now (c .before .before .before .before .before .before .args .a)) (c .before .before .before .before .before .before .args .lda)) (now (c .before .before .before .before .before .before .args .v)) (now (c .before .before .before .before .before .before .args .s)) (now (c .before .before .before .before .before .before .args .u)) (c .before .before .before .before .before .before .pre .0 .1) (c .before .before .before .before .before .before .pre .1) (omega (arith, c .before .before .before .before .before .before .pre), omega (arith, c .before .before .before .before .before .before .pre)) (c .before .loop .s) (rw e at (c .before .loop .inv .3))
+    (all-solved (c .before .before .before .before .before .before .args .left) (c .before .before .before .before .before .before .args .down) (c .before .before .before .before .before .before .args .ld) (c .before .before .before .before .before .before .args .n) (c .before .before .before .before .before .before .args .lines) (c .before .before .before .before .before .before .args .diag) (entryOf Plain (now (c .before .before .before .before .before .before .args .a)) (c .before .before .before .before .before .before .args .lda)) (now (c .before .before .before .before .before .before .args .v)) (now (c .before .before .before .before .before .before .args .s)) (now (c .before .before .before .before .before .before .args .u)) (c .before .before .before .before .before .before .pre .0 .1) (c .before .before .before .before .before .before .pre .1) (omega (arith, c .before .before .before .before .before .before .pre), omega (arith, c .before .before .before .before .before .before .pre)) (c .before .loop .s) (rw e at (c .before .loop .inv .3)), zero-all (c .before .before .before .before .before .before .args .down) (c .before .before .before .before .before .before .args .n) (c .before .before .before .before .before .before .args .diag) (entryOf Plain (now (c .before .before .before .before .before .before .args .a)) (c .before .before .before .before .before .before .args .lda)) (c .before .loop .zero) (rw e at (c .before .loop .inv .5)))
 
 pub solve-unknowns-spec : {M : Type 1} → statement M
 solve-unknowns-spec =
@@ -152,6 +159,7 @@ solve-unknowns-spec =
     part-value-factors-start-2
     part-value-factors-end-2
     value-factors-requires
+    lower-requires
     add-j
     loop-less
     loop-again

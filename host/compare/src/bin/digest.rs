@@ -3,7 +3,7 @@
 
 use compare::{calls, compare_runs, library, library_run, sheet, Case, Random};
 use reference::machine::{End, Lent};
-use reference::ROUTINES;
+use reference::{Done, ROUTINES};
 use std::cell::RefCell;
 
 /// A digest of numbers and elements; all NaNs are alike.
@@ -32,15 +32,15 @@ fn main() {
         for calls in calls::ALL {
             calls(routine, &mut |test, index, make| {
                 let Case { call, a: [a, _], b: [b, _], out: [mut out, _] } = make(&mut Random::of(test, index));
-                let number = library(&call, &a, &b, &mut out);
-                digest.borrow_mut().add_result(&[number], &[&out]);
+                let Done { number, zero } = library(&call, &a, &b, &mut out);
+                digest.borrow_mut().add_result(&[number, zero], &[&out]);
             });
         }
     }
     let recorded = |words: &[i32], scalars: &[f64], lent: &mut Lent, p: i32, s: i32, budget: u32| {
         let end = library_run(words, scalars, lent, p, s, budget);
-        let End { number, p, s, steps } = end;
-        let numbers = [&[number, p, s, steps as i32], &lent.answers[..]].concat();
+        let End { number, p, s, steps, zero } = end;
+        let numbers = [&[number, p, s, steps as i32, zero], &lent.answers[..]].concat();
         digest.borrow_mut().add_result(&numbers, &lent.arrays.each_ref().map(|array| &array[..]));
         end
     };
