@@ -2,10 +2,10 @@
 # link.sh IN OUT: makes the library, OUT/libthamrunlek.a and OUT/libthamrunlek.so. IN has libexports.a, the archive of the proved module, and, as build.sh keeps
 # them, the module itself (module.bc), the compiler (clang) and the words that it was called with (words).
 #
-# The compiler compiles the module with these words for x86-64, x86-64-v3 and x86-64-v4. What it makes for x86-64 must be the archive's object, byte for byte. A
-# build counts if it multiplies in registers as wide as its processors have and has no fused multiply-add, which rounds once where the definitions round twice.
-# Its functions get names of their own, and a section of it has the module's digest; the digests are compared in the finished library. The names that the
-# archive exports are those of the library: choice.c makes a jump of each.
+# The compiler compiles the module with these words for x86-64, x86-64-v3 and x86-64-v4, with one thing changed: its buffers start at a cache line. Without that
+# change, what it makes for x86-64 must be the archive's object, byte for byte. A build counts if it multiplies in registers as wide as its processors have and
+# has no fused multiply-add, which rounds once where the definitions round twice. Its functions get names of their own, and a section of it has the module's
+# digest; the digests are compared in the finished library. The names that the archive exports are those of the library: choice.c makes a jump of each.
 set -euo pipefail
 here=$(cd "$(dirname "$0")" && pwd)
 in=$(cd "$1" && pwd) out=$(cd "$2" && pwd)
@@ -27,7 +27,7 @@ add() {
     objcopy --redefine-syms=names "${@:3}" "$2" $1.o
     builds+=" B(\"$1\", ${level[$1]}, $suffix)" members+=($1.o)
 }
-# Compiles the module: compile CPU OBJECT. Wide builds get words for speed. Gathered loads and stores, and vectors of more than two elements that are put
+# Compiles a module: compile CPU MODULE OBJECT. Wide builds get words for speed. Gathered loads and stores, and vectors of more than two elements that are put
 # together one by one, are slow in tiny products. Loops are short beside a vector: how far they are unrolled was tried out, and their rest goes four by four.
 declare -A unrolled=([x86-64-v3]=1 [x86-64-v4]=2)
 compile() {
@@ -37,8 +37,8 @@ compile() {
     while IFS= read -r word; do
         case $word in
         -march=x86-64) word=-march=$1 ;;
-        *.bc) word=$in/module.bc ;;
-        *.o) word=$2 ;;
+        *.bc) word=$2 ;;
+        *.o) word=$3 ;;
         esac
         words+=("$word")
     done < "$in/words"
@@ -46,15 +46,20 @@ compile() {
 }
 once() { [ "$(grep -cxe "$1" "$in/words")" = 1 ]; }
 if [ -f "$in/words" ] && once -march=x86-64 && once '.*\.bc' && once '.*\.o'; then
+    # A local array of a thousand bytes or more is a buffer, and the module leaves its place in the cache to chance.
+    "$in/clang" -x ir -S -emit-llvm -O0 -Xclang -disable-llvm-passes "$in/module.bc" -o module.ll
+    sed -E 's/(alloca \[[0-9]{4,} x i8\]), align 8$/\1, align 64/' module.ll > aligned.ll
+    ! cmp -s module.ll aligned.ll || echo "library: link.sh knows no buffer of the module, so that their places are left to chance"
     for cpu in x86-64 x86-64-v3 x86-64-v4; do
-        compile $cpu compiled-$cpu.o
+        compile $cpu "$PWD/aligned.ll" compiled-$cpu.o
         objdump -d --no-show-raw-insn compiled-$cpu.o > $cpu.txt
         grep -q "mulpd .*%${registers[$cpu]}" $cpu.txt || fail "the build for $cpu does not multiply in ${registers[$cpu]} registers"
         ! grep -m 3 -E 'vfn?m(add|sub)' $cpu.txt >&2 || fail "the build for $cpu has fused operations, see above"
         sha256sum < "$in/module.bc" | cut -d ' ' -f 1 > digest
         add $cpu compiled-$cpu.o --add-section .thamrunlek.module=digest
     done
-    cmp archive.o compiled-x86-64.o || fail "the module that was kept is not the archive's"
+    compile x86-64 "$in/module.bc" compiled.o
+    cmp archive.o compiled.o || fail "the module that was kept is not the archive's"
 else
     echo "library: the toolchain hands over its module in a way that link.sh does not know; there is one build, for x86-64, that of rt staticlib"
     add x86-64 archive.o

@@ -43,6 +43,8 @@ says $library x86-64-v5 "thamrunlek: THAMRUNLEK_CPU is \"x86-64-v5\", which this
 $widest"
 
 if [ -f "$work/module.bc" ]; then
+    grep -q 'x i8\], align 64$' "$work/builds/aligned.ll" || fail "no buffer of the library starts at a cache line"
+    passed=$((passed + 1))
     copy; echo "$fused" > "$spoiled/module.bc"; refused 'has fused operations'
     copy; printf '%s\n' -fno-vectorize -fno-slp-vectorize >> "$spoiled/words"; refused 'does not multiply in xmm registers'
     copy; printf '%s\n' -mllvm -vectorize-loops=false >> "$spoiled/words"; refused 'does not multiply in ymm registers'

@@ -1,6 +1,6 @@
 // The direct calls. Each checks its arguments, and what is ready goes strip by strip through the update of its routine.
 ghost use mathlib.Core.Path.{_≡_};
-ghost use Prim.Native.Nat.{ℕ, _+_, _≤_, _<_};
+ghost use Prim.Native.Nat.{ℕ, _≤_, _<_};
 ghost use lib.ListN.{length};
 ghost use Rattle.definitions.specs.Element as Element;
 ghost use Rattle.definitions.specs.Check as Check;
@@ -25,7 +25,7 @@ fn complete(call: Call, a: &[f64], b: &[f64], out: &mut [f64], w: usize, r: usiz
     let mut zero = -1;
     let mut from = 0;
     while from < d {
-        let lines = kernel::panels::smaller(w, d - from);
+        let lines = arrays::smaller(w, d - from);
         zero = strips::strip(call, a, b, out, from, lines, r);
         from += lines;
     }

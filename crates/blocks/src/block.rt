@@ -88,10 +88,17 @@ fn two(c: &mut [f64], ld: usize, rows: usize, terms: usize, u: &[f64], t: &[f64]
     two_rest(c, ld, rows, terms - q, &u[y..], &t[q..]);
 }
 
+// A diagonal block is cut into small triangles of this order, or what is left of n.
+pub fn small(n: usize) -> usize
+    ensures { λ r. ⌜ (r ≤ 16) × (r ≤ n) × ((0 < n) → 0 < r) ⌝ }
+{
+    arrays::smaller(16, n)
+}
+
 // The product of two packed blocks, added to rows by cols entries of c.
 pub fn block(c: &mut [f64], ld: usize, rows: usize, cols: usize, terms: usize, u: &[f64], t: &[f64])
     requires { ⌜ (0 < ld) × (rows ≤ ld) × (cols * ld + rows ≤ length (now c) + ld) ⌝ }
-    requires { ⌜ (rows ≤ 64) × (cols ≤ 64) × (terms ≤ 64) × (terms * 64 ≤ length (now u)) × (cols * 64 ≤ length (now t)) ⌝ }
+    requires { ⌜ (rows ≤ 64) × (cols ≤ 64) × (terms ≤ 64) × (terms * 64 + rows ≤ length (now u) + 64) × (cols * 64 + terms ≤ length (now t) + 64) ⌝ }
     ensures { λ _. ⌜ now (c .exit) ≡ update (region ld rows cols (packed terms (now (u .entry)) (now (t .entry)))) (now (c .entry)) ⌝ }
 {
     let mut j = 0;

@@ -10,11 +10,12 @@ use native.Mathlib.Omega.{arith}
 use lib.ListN.{length, set, take, drop}
 use lib.Ieee.{Float, nan}
 use borrow.Rule.Slice.PartMut.{putMid}
-use Rattle.arrays.specs.Update.{update, below, region}
+use Rattle.arrays.specs.Update.{Mask, update, below, entries, only, region}
 use Rattle.arrays.specs.Fold.{fold}
 use Rattle.arrays.proofs.UpdateLaws.{at-update, below-none, below-more, below-in, below-out, below-same, lt-or-ge}
-use Rattle.arrays.proofs.PartLaws.{part-then, tail-at}
-use Rattle.arrays.proofs.RegionLaws.{region-same}
+use Rattle.arrays.proofs.PartLaws.{column-room, part-then, tail-at}
+use Rattle.arrays.proofs.EntryLaws.{entries-same, only-same}
+use Rattle.arrays.proofs.RegionLaws.{region-same, one-column}
 use Rattle.floats.specs.Array.{at}
 use Rattle.floats.specs.Operations.{_⊕_, _⊗_}
 use Rattle.blocks.specs.Terms.{accumulate}
@@ -113,6 +114,25 @@ right-column alpha A b rb cb down k rows j w ys e =
     ∙ below-same _ _ w rows
     (λ i h x. accumulate-same _ _ _ _ k x (λ q c. ap (λ (v : Float). alpha ⊗ v) (column-from b rb cb j (turn down k q))) (λ q c. refl))
 
+-- its first column
+first-column : (b : List Float) (rb cb j l c : ℕ) → c < 1 → strided (take (length b - j * cb) (drop (j * cb) b)) rb cb l c ≡ strided b rb cb l j
+unfolding strided
+first-column b rb cb j l c h = tail-at (j * cb) b (l * rb + c * cb) nan ∙ ap (at b) (let z : c ≡ 0 = omega arith in rw z (omega arith))
+
+-- one column of a product, of the parts from row i₀ and from column j on
+pub one-column-of : (alpha : Float) (a : List Float) (ra ca : ℕ) (b : List Float) (rb cb : ℕ) (down : Bool) (k ld rows i₀ j : ℕ) (w ys : List Float) → 0 < ld → rows ≤ ld
+    → ys ≡ update (region ld rows 1 (product alpha (strided (take (length a - i₀ * ra) (drop (i₀ * ra) a)) ra ca) (strided (take (length b - j * cb) (drop (j * cb) b)) rb cb) down k)) w
+    → ys ≡ update (below rows (λ i x. product alpha (strided a ra ca) (strided b rb cb) down k (i₀ + i) j x)) w
+unfolding product partly
+one-column-of alpha a ra ca b rb cb down k ld rows i₀ j w ys pos fit e =
+    e
+    ∙ region-same ld rows 1 _ _ w pos
+    (λ i c hi hc x.
+    accumulate-same _ _ _ _ k x
+    (λ q h. ap (λ (v : Float). alpha ⊗ v) (first-column b rb cb j (turn down k q) c hc))
+    (λ q h. rows-part a ra ca i₀ i (turn down k q)))
+    ∙ sym (one-column nan ld pos rows (λ i x. product alpha (strided a ra ca) (strided b rb cb) down k (i₀ + i) j x) w fit)
+
 -- ---- by the forms of the factors
 
 pub stride-index : (form : Form) → isMirrored form ≡ false → (ld i j : ℕ) → indexOf form ld i j ≡ i * rowStride form ld + j * columnStride form ld
@@ -123,16 +143,20 @@ stride-index Lower e ld i j = absurd (true≢false e)
 stride-index Upper e ld i j = absurd (true≢false e)
 
 -- a product with other names for its entries
-pub same-product : (alpha : Float) (A A′ B B′ : Matrix) (down : Bool) (k ld rows cols : ℕ) (l r : List Float) → 0 < ld
+pub same-product : (alpha : Float) (A A′ B B′ : Matrix) (down : Bool) (k ld rows cols : ℕ) (mask : Mask) (l r : List Float) → 0 < ld
+    → ((i j : ℕ) → mask i j ≡ true → (i < rows) × (j < cols))
     → ((i q : ℕ) → i < rows → q < k → A i q ≡ A′ i q) → ((q j : ℕ) → q < k → j < cols → B q j ≡ B′ q j)
-    → r ≡ update (region ld rows cols (product alpha A B down k)) l → r ≡ update (region ld rows cols (product alpha A′ B′ down k)) l
+    → r ≡ update (entries ld (only mask (product alpha A B down k))) l → r ≡ update (entries ld (only mask (product alpha A′ B′ down k))) l
 unfolding product partly
-same-product alpha A A′ B B′ down k ld rows cols l r pos ea eb e =
+same-product alpha A A′ B B′ down k ld rows cols mask l r pos inside ea eb e =
     e
-    ∙ region-same ld rows cols _ _ l pos
-    (λ i j hi hj x.
-    accumulate-same _ _ _ _ k x (λ q c. ap (λ (v : Float). alpha ⊗ v) (eb (turn down k q) j (turn-below down k q c) hj))
-    (λ q c. ea i (turn down k q) hi (turn-below down k q c)))
+    ∙ entries-same ld l pos _ _
+    (λ i j hi b x.
+    only-same mask _ i j x _
+    (λ h.
+    let w = inside i j h in
+    accumulate-same _ _ _ _ k x (λ q c. ap (λ (v : Float). alpha ⊗ v) (eb (turn down k q) j (turn-below down k q c) (w .1)))
+    (λ q c. ea i (turn down k q) (w .0) (turn-below down k q c))))
 
 -- the rows of the left factor from i₀ on, by its strides
 pub left-entry : (form : Form) (a : List Float) (ld i₀ : ℕ) {ra ca : ℕ} (i l : ℕ) → isMirrored form ≡ false → ra ≡ rowStride form ld → ca ≡ columnStride form ld
@@ -150,13 +174,13 @@ right-entry form b ld j₀ {rb} {cb} l j h er ec =
     ∙ ap (at b) (ap₂ (λ (r c : ℕ). l * r + (j₀ + j) * c) er ec ∙ sym (stride-index form h ld l (j₀ + j)))
 
 -- an entry of a mirrored factor as it was written out
-pub written-out : (form : Form) {lower : Bool} (a : List Float) (ld ny nx i₀ j₀ : ℕ) (d₀ d : List Float) (y x : ℕ) → isMirrored form ≡ true → lower ≡ isLower form
-    → ny ≤ 8 → nx * 8 ≤ length d₀
-    → d ≡ update (region 8 ny nx (λ y x _. entryOf (mirroredForm lower) a ld (i₀ + y) (j₀ + x))) d₀ → y < ny → x < nx
-    → entryOf Plain d 8 y x ≡ entryOf form a ld (i₀ + y) (j₀ + x)
+pub written-out : (s : ℕ) (form : Form) {lower : Bool} (a : List Float) (ld ny nx i₀ j₀ : ℕ) (d₀ d : List Float) (y x : ℕ) → isMirrored form ≡ true
+    → lower ≡ isLower form → ny ≤ s → nx * s ≤ length d₀
+    → d ≡ update (region s ny nx (λ y x _. entryOf (mirroredForm lower) a ld (i₀ + y) (j₀ + x))) d₀ → y < ny → x < nx
+    → entryOf Plain d s y x ≡ entryOf form a ld (i₀ + y) (j₀ + x)
 unfolding entryOf indexOf
-written-out form {lower} a ld ny nx i₀ j₀ d₀ d y x m e hn hl ed hy hx =
-    held 8 ny nx (λ y x. entryOf (mirroredForm lower) a ld (i₀ + y) (j₀ + x)) d₀ d y x hn hl ed hy hx
+written-out s form {lower} a ld ny nx i₀ j₀ d₀ d y x m e hn hl ed hy hx =
+    held s ny nx (λ y x. entryOf (mirroredForm lower) a ld (i₀ + y) (j₀ + x)) d₀ d y x hn hl ed hy hx
     ∙ ap (λ (f : Form). entryOf f a ld (i₀ + y) (j₀ + x)) (ap mirroredForm e ∙ by-triangle form m)
 
 -- the places that are read
@@ -175,6 +199,6 @@ pub mirrored-room : (form : Form) {lower : Bool} {len : ℕ} (ld i j : ℕ) → 
 mirrored-room form {lower} {len} ld i j m e h = subst (λ (f : Form). indexOf f ld i j < len) (sym (ap mirroredForm e ∙ by-triangle form m)) h
 
 -- an entry of the buffer that a mirrored factor is written out to
-pub buffer-room : {len ny nx : ℕ} (i j : ℕ) → ny ≤ 8 → nx ≤ 8 → 64 ≤ len → i < ny → j < nx → indexOf Plain 8 i j < len
+pub buffer-room : (s : ℕ) {len ny nx : ℕ} (i j : ℕ) → ny ≤ s → nx * s ≤ len → i < ny → j < nx → indexOf Plain s i j < len
 unfolding indexOf
-buffer-room i j hy hx h hi hj = omega arith
+buffer-room s i j hy h hi hj = omega (arith, column-room s hj)

@@ -1,3 +1,5 @@
+pub mod MaskLaws
+pub mod TrapezoidLaws
 pub mod PanelLaws
 pub mod DirectLaws
 pub mod TriangleLaws

@@ -1,8 +1,7 @@
 -- Laws of a product in one triangle of a diagonal block: a column more, the passes that it takes, some terms more, a panel of terms more.
 -- Assumes nothing.
-use mathlib.Core.Bool.{Bool, true, false, and-false}
+use mathlib.Core.Bool.{Bool, true, false}
 use mathlib.Core.Path.{_≡_, refl, sym, ap, ap₂, _∙_}
-use mathlib.Core.Logic.{⊎-elim}
 use mathlib.Core.List.{List}
 use Prim.Native.Nat.{ℕ, _+_, _-_, _*_, _<_, _≤_}
 use native.Mathlib.Nat.{zero-add, add-mul, mul-add, sub-zero}
@@ -10,13 +9,10 @@ use native.Mathlib.Omega.{arith}
 use lib.ListN.{length, take, drop}
 use lib.Ieee.{Float, nan}
 use borrow.Rule.Slice.PartMut.{putMid}
-use borrow.Author.Tests.{lt-ltb, le-ltb, le-leb, lt-leb}
 use Rattle.arrays.specs.Choice.{if_then_else_}
-use Rattle.arrays.specs.Update.{update, below, entries, only, box, region}
-use Rattle.arrays.proofs.UpdateLaws.{lt-or-ge, same-or-not, below-same}
-use Rattle.arrays.proofs.EntryLaws.{box-in, box-row-out, box-column-out, entries-keep, only-out, only-keep, only-then}
+use Rattle.arrays.specs.Update.{update, below, entries, only, region}
+use Rattle.arrays.proofs.EntryLaws.{entries-keep, only-keep, only-then}
 use Rattle.arrays.proofs.PartLaws.{tail-at}
-use Rattle.arrays.proofs.RegionLaws.{mask-column}
 use Rattle.floats.specs.Operations.{_⊗_}
 use Rattle.floats.specs.Array.{at}
 use Rattle.blocks.specs.Terms.{packed}
@@ -25,51 +21,8 @@ use Rattle.kernel.specs.Product.{turn, fromRow, fromColumn, partly, corn
 use Rattle.packing.specs.declared.Form.{Form}
 use Rattle.blocks.proofs.TermLaws.{accumulate-none, accumulate-same, accumulate-split, packed-none, packed-more, column-of}
 use Rattle.packing.proofs.FactorLaws.{along-up}
-use Rattle.kernel.proofs.PanelLaws.{turn-up}
-use Rattle.kernel.proofs.PanelLaws.{held, scaled, turn-along}
-
--- ---- the mask
-
-module _ (lower : Bool) (rows cols i j : ℕ) where
-  pub corner-row-out : rows ≤ i → corner lower rows cols i j ≡ false
-  unfolding corner
-  corner-row-out h = rw (box-row-out rows cols i j h)
-
-  pub corner-column-out : cols ≤ j → corner lower rows cols i j ≡ false
-  unfolding corner
-  corner-column-out h = rw (box-column-out rows cols i j h)
-
--- The rows of column j in the triangle are `rows` ones, from `first` on.
-abbrev pub Inside : Bool → ℕ → ℕ → ℕ → ℕ → Type 0
-Inside lower order j first rows = (first ≡ (if lower then j else 0)) × (rows ≡ (if lower then order - j else j + 1))
-
-pub rows-room : (lower : Bool) (order j first rows : ℕ) → Inside lower order j first rows → j < order → first + rows ≤ order
-rows-room true order j first rows e h = omega arith
-rows-room false order j first rows e h = omega arith
-
-rows-in : (lower : Bool) (order j first rows i : ℕ) → Inside lower order j first rows → j < order → i < rows → corner lower order (j + 1) (first + i) j ≡ true
-unfolding corner
-rows-in true order j first rows i e h b = rw (box-in order (j + 1) (first + i) j (omega arith) (omega arith), le-leb j (first + i) (omega arith))
-rows-in false order j first rows i e h b = rw (box-in order (j + 1) (first + i) j (omega arith) (omega arith), le-leb (first + i) j (omega arith))
-
-rows-out : (lower : Bool) (order j first rows i : ℕ) → Inside lower order j first rows → (first ≤ i → i < first + rows → ⊥) → corner lower order (j + 1) i j ≡ false
-unfolding corner
-rows-out true order j first rows i e out =
-    ⊎-elim
-    (λ (b : i < j). rw (lt-leb j i b, and-false))
-    (λ b. corner-row-out true order (j + 1) i j (⊎-elim (λ (z : i < order). absurd (out (omega arith) (omega arith))) (λ z. z) (lt-or-ge i order)))
-    (lt-or-ge i j)
-rows-out false order j first rows i e out =
-    ⊎-elim (λ (b : i < j + 1). absurd (out (omega arith) (omega arith))) (λ b. rw (lt-leb i j (omega arith), and-false)) (lt-or-ge i (j + 1))
-
--- one column more does not change the mask elsewhere
-same-elsewhere : (lower : Bool) (rows j i c : ℕ) → (c ≡ j → ⊥) → corner lower rows j i c ≡ corner lower rows (j + 1) i c
-unfolding corner box
-same-elsewhere lower rows j i c h =
-    ⊎-elim
-    (λ (b : c < j). rw (lt-ltb c j b, lt-ltb c (j + 1) (omega arith)))
-    (λ b. let k : j + 1 ≤ c = ⊎-elim (λ (z : j < c). omega arith) (λ z. absurd (h (omega arith))) (lt-or-ge j c) in rw (le-ltb c j b, le-ltb c (j + 1) k))
-    (lt-or-ge c j)
+use Rattle.kernel.proofs.PanelLaws.{held, scaled, turn-up, turn-along}
+use Rattle.kernel.proofs.TrapezoidLaws.{Inside, within, column-more}
 
 -- ---- the rows from i₀ on, by their part of u
 
@@ -86,21 +39,10 @@ module _ (lower : Bool) (ld order n j first rows : ℕ) (u t l m ys : List Float
       → ys ≡ update (below rows (λ i e. packed n (take (length u - first) (drop first u)) (take (length t - j * 64) (drop (j * 64) t)) i 0 e)) (take (length m - (j * ld + first)) (drop (j * ld + first) m))
       → putMid (j * ld + first) (length m - (j * ld + first)) m ys ≡ update (entries ld (only (corner lower order (j + 1)) (packed n u t))) l
   corner-next inside al em ey =
-      mask-column nan ld pos first j rows (j * ld + first) (corner lower order j) (corner lower order (j + 1)) (packed n u t) l m ys
-      (omega (arith, rows-room lower order j first rows inside in-block)) refl al em
-      (column-of n rows j (take (length u - first) (drop first u)) t (take (length m - (j * ld + first)) (drop (j * ld + first) m)) ys ey
-      ∙ below-same _ _ (take (length m - (j * ld + first)) (drop (j * ld + first) m)) rows (λ i b x. packed-rows n u t first i j x))
-      (λ i b. corner-column-out lower order j (first + i) j (omega arith))
-      (λ i b. rows-in lower order j first rows i inside in-block b)
-      (λ i c out. ⊎-elim
-      (λ (h : c ≡ j). corner-column-out lower order j i c (omega arith)
-      ∙ sym (ap (corner lower order (j + 1) i) h ∙ rows-out lower order j first rows i inside (λ v w. out v w h)))
-      (λ h. same-elsewhere lower order j i c h)
-      (same-or-not c j))
-
-pub corner-none : (lower : Bool) (ld order n : ℕ) (u t l : List Float) → l ≡ update (entries ld (only (corner lower order 0) (packed n u t))) l
-corner-none lower ld order n u t l =
-    sym (entries-keep ld _ l (λ i j x. only-out (corner lower order 0) (packed n u t) i j x (corner-column-out lower order 0 i j (omega arith))))
+      column-more 0 order j j first rows (sym (zero-add j)) in-block lower (packed n u t) (λ i e. packed n (take (length u - first) (drop first u)) t i j e) ld (j * ld + first)
+      l m ys inside pos fit refl al em
+      (column-of n rows j (take (length u - first) (drop first u)) t (take (length m - (j * ld + first)) (drop (j * ld + first) m)) ys ey)
+      (λ i x. packed-rows n u t first i j x)
 
 -- ---- the passes
 
@@ -143,12 +85,6 @@ module _ (lower : Bool) (ld order : ℕ) (u t l : List Float) where
 
 -- ---- a panel of terms more
 
-inside-corner : (lower : Bool) (rows cols i j : ℕ) → corner lower rows cols i j ≡ true → (i < rows) × (j < cols)
-inside-corner lower rows cols i j h = (
-  ⊎-elim (λ (b : i < rows). b) (λ b. let f = corner-row-out lower rows cols i j b in let z : _≡_ {A = ℕ} 0 1 = cc in omega arith) (lt-or-ge i rows),
-  ⊎-elim (λ (b : j < cols). b) (λ b. let f = corner-column-out lower rows cols i j b in let z : _≡_ {A = ℕ} 0 1 = cc in omega arith) (lt-or-ge j cols),
-)
-
 module _ (lower : Bool) (alpha : Float) (fa : Form) (a : List Float) (lda i₀ : ℕ) (fb : Form) (b : List Float) (ldb j₀ : ℕ) (k ld order : ℕ) where
   pub corner-terms-none : (c₀ : List Float)
       → c₀ ≡ update (entries ld (only (corner lower order order) (partly alpha (fromRow i₀ (entryOf fa a lda)) (fromColumn j₀ (entryOf fb b ldb)) false k 0))) c₀
@@ -167,13 +103,13 @@ module _ (lower : Bool) (alpha : Float) (fa : Form) (a : List Float) (lda i₀ :
   corner-panel l n c₀ t₀ t₁ t u₀ u m r pos hn ho ht hu em e₁ et eu er =
       only-then ld (corner lower order order) _ (packed n u t) _ c₀ m r pos em er
       (λ i j h x.
-      let w = inside-corner lower order order i j h in
+      let w = within 0 order order i j lower h in
       accumulate-same _ _ _ _ n _
       (λ q hq.
       held 64 n order (λ q j. alpha ⊗ entryOf fb b ldb (along false l q) (along false j₀ j)) t₀ t q j hn ht
-      (scaled alpha n order (λ y x. entryOf fb b ldb (along false l y) (along false j₀ x)) t₀ t₁ t e₁ et) hq (w .1)
+      (scaled alpha n order (λ y x. entryOf fb b ldb (along false l y) (along false j₀ x)) t₀ t₁ t e₁ et) hq (w .column)
       ∙ ap₂ (λ (x y : ℕ). alpha ⊗ entryOf fb b ldb x y) (turn-along false k l q (sym (turn-up k l refl))) (along-up j₀ j refl))
       (λ q hq.
-      held 64 order n (λ y x. entryOf fa a lda (along false i₀ y) (along false l x)) u₀ u i q ho hu eu (w .0) hq
+      held 64 order n (λ y x. entryOf fa a lda (along false i₀ y) (along false l x)) u₀ u i q ho hu eu (w .row) hq
       ∙ ap₂ (λ (x y : ℕ). entryOf fa a lda x y) (along-up i₀ i refl) (turn-along false k l q (sym (turn-up k l refl))))
       ∙ accumulate-split (λ q. alpha ⊗ entryOf fb b ldb (turn false k q) (j₀ + j)) (λ q. entryOf fa a lda (i₀ + i) (turn false k q)) l n x)

@@ -6,7 +6,9 @@
 --                 alpha, at j * 64 + q of t
 --     strided     a factor that is read by two strides: entry (i, j) is element i * r + j * c
 --     rowStride, columnStride   the strides of a form
---     corner      the mask of a triangle, diagonal included, in the rows below `rows` and the columns below `cols`
+--     trapezoid   the mask of a triangle, diagonal included, in the columns from `from` on: column j of the part is column from + j of the matrix, and
+--                 the part has the rows below `rows` and the columns below `cols`
+--     corner      the same from the matrix's first column on
 --     passes      how many passes a walk over a diagonal block makes
 use mathlib.Core.Bool.{Bool, true, false, _&&_}
 use mathlib.Core.List.{List}
@@ -58,8 +60,11 @@ fromRow i₀ M i l = M (i₀ + i) l
 abbrev pub fromColumn : ℕ → Matrix → Matrix
 fromColumn j₀ M l j = M l (j₀ + j)
 
-unfoldable pub corner : Bool → ℕ → ℕ → Mask
-corner lower rows cols i j = box rows cols i j && (if lower then leb j i else leb i j)
+unfoldable pub trapezoid : Bool → ℕ → ℕ → ℕ → Mask
+trapezoid lower from rows cols i j = box rows cols i j && (if lower then leb (from + j) i else leb i (from + j))
+
+abbrev pub corner : Bool → ℕ → ℕ → Mask
+corner lower rows cols = trapezoid lower 0 rows cols
 
 -- "One walk over a diagonal block of order t then makes exactly t·(t+1)/2 passes" (document 02, K3).
 unfoldable pub passes : ℕ → ℕ

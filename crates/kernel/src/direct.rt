@@ -4,10 +4,10 @@ ghost use mathlib.Core.Path.{_≡_};
 ghost use mathlib.Core.Bool.{true, false};
 ghost use Prim.Native.Nat.{ℕ, _+_, _*_, _≤_, _<_};
 ghost use lib.ListN.{length};
-ghost use Rattle.arrays.specs.Update.{update, below, region};
+ghost use Rattle.arrays.specs.Update.{update, below, entries, only, region};
 ghost use Rattle.floats.specs.Array.{at};
 ghost use Rattle.packing.specs.Factor.{isMirrored, indexOf, entryOf};
-ghost use Rattle.kernel.specs.Product.{strided, rowStride, columnStride, fromRow, fromColumn, product};
+ghost use Rattle.kernel.specs.Product.{strided, rowStride, columnStride, fromRow, fromColumn, product, corner};
 use super::panels;
 use packing::Form;
 use packing::mirror;
@@ -166,6 +166,51 @@ fn columns(
     }
 }
 
+// The columns of one triangle, each from the diagonal to the block's end or from the top to the diagonal.
+fn corner_columns(
+    lower: bool,
+    c: &mut [f64],
+    ld: usize,
+    order: usize,
+    k: usize,
+    a: &[f64],
+    ra: usize,
+    ca: usize,
+    b: &[f64],
+    rb: usize,
+    cb: usize,
+    alpha: f64,
+)
+    requires { ⌜ (0 < order) × (order ≤ ld) × (order * ld + order ≤ length (now c) + ld) × (0 < k) ⌝ }
+    requires { ⌜ ((i l : ℕ) → i < order → l < k → i * ra + l * ca < length (now a)) × ((l j : ℕ) → l < k → j < order → l * rb + j * cb < length (now b)) ⌝ }
+    ensures { λ _. ⌜ now (c .exit) ≡ update (entries ld (only (corner lower order order) (product alpha (strided (now (a .entry)) ra ca) (strided (now (b .entry)) rb cb) false k))) (now (c .entry)) ⌝ }
+{
+    let mut j = 0;
+    while j < order {
+        let first = arrays::pick(lower, j, 0);
+        let rows = arrays::pick(lower, order - j, j + 1);
+        let from = j * ld + first;
+        let x = first * ra;
+        let y = j * cb;
+        columns(
+            &mut c[from..],
+            ld,
+            rows,
+            1,
+            k,
+            &a[x..],
+            ra,
+            ca,
+            &b[y..],
+            rb,
+            cb,
+            alpha,
+            false,
+        );
+        j += 1;
+    }
+}
+
 // ---- by the forms of the factors
 
 fn row_stride(form: Form, ld: usize) -> usize
@@ -236,7 +281,53 @@ fn strides(
     );
 }
 
-// The left factor is mirrored: it is written out first.
+// The left factor is mirrored: it is written out to u first, with columns s apart.
+fn left_written(
+    c: &mut [f64],
+    ld: usize,
+    rows: usize,
+    cols: usize,
+    k: usize,
+    fa: Form,
+    a: &[f64],
+    lda: usize,
+    i0: usize,
+    fb: Form,
+    b: &[f64],
+    ldb: usize,
+    j0: usize,
+    alpha: f64,
+    down: bool,
+    s: usize,
+    u: &mut [f64],
+)
+    requires { ⌜ (0 < rows) × (rows ≤ ld) × (cols * ld + rows ≤ length (now c) + ld) × (0 < cols) × (rows ≤ s) × (0 < k) × (k * s ≤ length (now u)) ⌝ }
+    requires { ⌜ (i0 + rows < 18446744073709551616) × (j0 + cols < 18446744073709551616) × (isMirrored fa ≡ true) × (isMirrored fb ≡ false) ⌝ }
+    requires { ⌜ ((i l : ℕ) → i < rows → l < k → indexOf fa lda (i0 + i) l < length (now a)) × ((l j : ℕ) → l < k → j < cols → indexOf fb ldb l (j0 + j) < length (now b)) ⌝ }
+    ensures { λ _. ⌜ now (c .exit) ≡ update (region ld rows cols (product alpha (fromRow i0 (entryOf fa (now (a .entry)) lda)) (fromColumn j0 (entryOf fb (now (b .entry)) ldb)) down k)) (now (c .entry)) ⌝ }
+{
+    let lower = mirror::is_lower(fa);
+    mirror::block(u, s, rows, k, lower, a, lda, i0, 0);
+    strides(
+        c,
+        ld,
+        rows,
+        cols,
+        k,
+        Form::Plain,
+        u,
+        s,
+        0,
+        fb,
+        b,
+        ldb,
+        j0,
+        alpha,
+        down,
+    );
+}
+
+// The same, in a buffer that is as small as can be.
 fn left_mirrored(
     c: &mut [f64],
     ld: usize,
@@ -254,34 +345,103 @@ fn left_mirrored(
     alpha: f64,
     down: bool,
 )
-    requires { ⌜ (0 < rows) × (rows ≤ ld) × (cols * ld + rows ≤ length (now c) + ld) × (0 < cols) × (rows ≤ 8) × (0 < k) × (k ≤ 8) ⌝ }
+    requires { ⌜ (0 < rows) × (rows ≤ ld) × (cols * ld + rows ≤ length (now c) + ld) × (0 < cols) × (rows ≤ 16) × (0 < k) × (k ≤ 16) ⌝ }
     requires { ⌜ (i0 + rows < 18446744073709551616) × (j0 + cols < 18446744073709551616) × (isMirrored fa ≡ true) × (isMirrored fb ≡ false) ⌝ }
     requires { ⌜ ((i l : ℕ) → i < rows → l < k → indexOf fa lda (i0 + i) l < length (now a)) × ((l j : ℕ) → l < k → j < cols → indexOf fb ldb l (j0 + j) < length (now b)) ⌝ }
     ensures { λ _. ⌜ now (c .exit) ≡ update (region ld rows cols (product alpha (fromRow i0 (entryOf fa (now (a .entry)) lda)) (fromColumn j0 (entryOf fb (now (b .entry)) ldb)) down k)) (now (c .entry)) ⌝ }
 {
-    let mut u = [0.0f64; 64];
-    let lower = mirror::is_lower(fa);
-    mirror::block(&mut u, 8, rows, k, lower, a, lda, i0, 0);
-    strides(
+    if within(rows, rows, k, 8) {
+        let mut u = [0.0f64; 64];
+        left_written(
+            c,
+            ld,
+            rows,
+            cols,
+            k,
+            fa,
+            a,
+            lda,
+            i0,
+            fb,
+            b,
+            ldb,
+            j0,
+            alpha,
+            down,
+            8,
+            &mut u,
+        );
+        return;
+    }
+    let mut u = [0.0f64; 256];
+    left_written(
         c,
         ld,
         rows,
         cols,
         k,
-        Form::Plain,
-        &u,
-        8,
-        0,
+        fa,
+        a,
+        lda,
+        i0,
         fb,
         b,
         ldb,
         j0,
         alpha,
         down,
+        16,
+        &mut u,
     );
 }
 
-// The right factor is.
+// The right factor is, and t takes it.
+fn right_written(
+    c: &mut [f64],
+    ld: usize,
+    rows: usize,
+    cols: usize,
+    k: usize,
+    fa: Form,
+    a: &[f64],
+    lda: usize,
+    i0: usize,
+    fb: Form,
+    b: &[f64],
+    ldb: usize,
+    j0: usize,
+    alpha: f64,
+    down: bool,
+    s: usize,
+    t: &mut [f64],
+)
+    requires { ⌜ (0 < rows) × (rows ≤ ld) × (cols * ld + rows ≤ length (now c) + ld) × (0 < cols) × (k ≤ s) × (0 < k) × (cols * s ≤ length (now t)) ⌝ }
+    requires { ⌜ (i0 + rows < 18446744073709551616) × (j0 + cols < 18446744073709551616) × (isMirrored fa ≡ false) × (isMirrored fb ≡ true) ⌝ }
+    requires { ⌜ ((i l : ℕ) → i < rows → l < k → indexOf fa lda (i0 + i) l < length (now a)) × ((l j : ℕ) → l < k → j < cols → indexOf fb ldb l (j0 + j) < length (now b)) ⌝ }
+    ensures { λ _. ⌜ now (c .exit) ≡ update (region ld rows cols (product alpha (fromRow i0 (entryOf fa (now (a .entry)) lda)) (fromColumn j0 (entryOf fb (now (b .entry)) ldb)) down k)) (now (c .entry)) ⌝ }
+{
+    let lower = mirror::is_lower(fb);
+    mirror::block(t, s, k, cols, lower, b, ldb, 0, j0);
+    strides(
+        c,
+        ld,
+        rows,
+        cols,
+        k,
+        fa,
+        a,
+        lda,
+        i0,
+        Form::Plain,
+        t,
+        s,
+        0,
+        alpha,
+        down,
+    );
+}
+
+// The same, in a buffer that is as small as can be.
 fn right_mirrored(
     c: &mut [f64],
     ld: usize,
@@ -299,15 +459,36 @@ fn right_mirrored(
     alpha: f64,
     down: bool,
 )
-    requires { ⌜ (0 < rows) × (rows ≤ ld) × (cols * ld + rows ≤ length (now c) + ld) × (0 < cols) × (cols ≤ 8) × (0 < k) × (k ≤ 8) ⌝ }
+    requires { ⌜ (0 < rows) × (rows ≤ ld) × (cols * ld + rows ≤ length (now c) + ld) × (0 < cols) × (cols ≤ 16) × (0 < k) × (k ≤ 16) ⌝ }
     requires { ⌜ (i0 + rows < 18446744073709551616) × (j0 + cols < 18446744073709551616) × (isMirrored fa ≡ false) × (isMirrored fb ≡ true) ⌝ }
     requires { ⌜ ((i l : ℕ) → i < rows → l < k → indexOf fa lda (i0 + i) l < length (now a)) × ((l j : ℕ) → l < k → j < cols → indexOf fb ldb l (j0 + j) < length (now b)) ⌝ }
     ensures { λ _. ⌜ now (c .exit) ≡ update (region ld rows cols (product alpha (fromRow i0 (entryOf fa (now (a .entry)) lda)) (fromColumn j0 (entryOf fb (now (b .entry)) ldb)) down k)) (now (c .entry)) ⌝ }
 {
-    let mut t = [0.0f64; 64];
-    let lower = mirror::is_lower(fb);
-    mirror::block(&mut t, 8, k, cols, lower, b, ldb, 0, j0);
-    strides(
+    if within(cols, cols, k, 8) {
+        let mut t = [0.0f64; 64];
+        right_written(
+            c,
+            ld,
+            rows,
+            cols,
+            k,
+            fa,
+            a,
+            lda,
+            i0,
+            fb,
+            b,
+            ldb,
+            j0,
+            alpha,
+            down,
+            8,
+            &mut t,
+        );
+        return;
+    }
+    let mut t = [0.0f64; 256];
+    right_written(
         c,
         ld,
         rows,
@@ -317,12 +498,14 @@ fn right_mirrored(
         a,
         lda,
         i0,
-        Form::Plain,
-        &t,
-        8,
-        0,
+        fb,
+        b,
+        ldb,
+        j0,
         alpha,
         down,
+        16,
+        &mut t,
     );
 }
 
@@ -342,20 +525,27 @@ fn within(rows: usize, cols: usize, k: usize, limit: usize) -> bool
     true
 }
 
-// The product is tiny enough to be made directly: at most 16 each way, or 8 where a factor is mirrored.
+// The product is tiny enough to be made directly: at most 16 each way, and at most one factor is mirrored.
 pub fn is_tiny(fa: Form, fb: Form, rows: usize, cols: usize, k: usize) -> bool
-    ensures { λ r. ⌜ (r ≡ true → (isMirrored fa ≡ true → (rows ≤ 8) × (k ≤ 8) × (isMirrored fb ≡ false)) × (isMirrored fb ≡ true → (cols ≤ 8) × (k ≤ 8))) ⌝ }
+    ensures { λ r. ⌜ (r ≡ true → (isMirrored fa ≡ true → (rows ≤ 16) × (k ≤ 16) × (isMirrored fb ≡ false)) × (isMirrored fb ≡ true → (cols ≤ 16) × (k ≤ 16))) ⌝ }
 {
-    if mirror::is_mirrored(fa) {
-        if mirror::is_mirrored(fb) {
-            return false;
-        }
-        return within(rows, cols, k, 8);
-    }
-    if mirror::is_mirrored(fb) {
-        return within(rows, cols, k, 8);
+    if mirror::is_mirrored(fa) & mirror::is_mirrored(fb) {
+        return false;
     }
     within(rows, cols, k, 16)
+}
+
+// The same of a product in one triangle: at most 16 each way, and no factor is mirrored.
+pub fn is_tiny_triangle(fa: Form, fb: Form, order: usize, k: usize) -> bool
+    ensures { λ r. ⌜ (r ≡ true → (isMirrored fa ≡ false) × (isMirrored fb ≡ false)) ⌝ }
+{
+    if mirror::is_mirrored(fa) {
+        return false;
+    }
+    if mirror::is_mirrored(fb) {
+        return false;
+    }
+    within(order, order, k, 16)
 }
 
 // A tiny product.
@@ -377,7 +567,7 @@ pub fn direct(
     down: bool,
 )
     requires { ⌜ (0 < rows) × (rows ≤ ld) × (cols * ld + rows ≤ length (now c) + ld) × (0 < cols) ⌝ }
-    requires { ⌜ (i0 + rows < 18446744073709551616) × (j0 + cols < 18446744073709551616) × (isMirrored fa ≡ true → (rows ≤ 8) × (k ≤ 8) × (isMirrored fb ≡ false)) × (isMirrored fb ≡ true → (cols ≤ 8) × (k ≤ 8)) ⌝ }
+    requires { ⌜ (i0 + rows < 18446744073709551616) × (j0 + cols < 18446744073709551616) × (isMirrored fa ≡ true → (rows ≤ 16) × (k ≤ 16) × (isMirrored fb ≡ false)) × (isMirrored fb ≡ true → (cols ≤ 16) × (k ≤ 16)) ⌝ }
     requires { ⌜ ((i l : ℕ) → i < rows → l < k → indexOf fa lda (i0 + i) l < length (now a)) × ((l j : ℕ) → l < k → j < cols → indexOf fb ldb l (j0 + j) < length (now b)) ⌝ }
     ensures { λ _. ⌜ now (c .exit) ≡ update (region ld rows cols (product alpha (fromRow i0 (entryOf fa (now (a .entry)) lda)) (fromColumn j0 (entryOf fb (now (b .entry)) ldb)) down k)) (now (c .entry)) ⌝ }
 {
@@ -440,5 +630,52 @@ pub fn direct(
         j0,
         alpha,
         down,
+    );
+}
+
+// A tiny product in one triangle, of factors that are not mirrored.
+pub fn triangle(
+    lower: bool,
+    c: &mut [f64],
+    ld: usize,
+    order: usize,
+    k: usize,
+    fa: Form,
+    a: &[f64],
+    lda: usize,
+    i0: usize,
+    fb: Form,
+    b: &[f64],
+    ldb: usize,
+    j0: usize,
+    alpha: f64,
+)
+    requires { ⌜ (0 < order) × (order ≤ ld) × (order * ld + order ≤ length (now c) + ld) ⌝ }
+    requires { ⌜ (i0 + order < 18446744073709551616) × (j0 + order < 18446744073709551616) × (isMirrored fa ≡ false) × (isMirrored fb ≡ false) ⌝ }
+    requires { ⌜ ((i l : ℕ) → i < order → l < k → indexOf fa lda (i0 + i) l < length (now a)) × ((l j : ℕ) → l < k → j < order → indexOf fb ldb l (j0 + j) < length (now b)) ⌝ }
+    ensures { λ _. ⌜ now (c .exit) ≡ update (entries ld (only (corner lower order order) (product alpha (fromRow i0 (entryOf fa (now (a .entry)) lda)) (fromColumn j0 (entryOf fb (now (b .entry)) ldb)) false k))) (now (c .entry)) ⌝ }
+{
+    if k == 0 {
+        return;
+    }
+    let ra = row_stride(fa, lda);
+    let ca = column_stride(fa, lda);
+    let rb = row_stride(fb, ldb);
+    let cb = column_stride(fb, ldb);
+    let x = i0 * ra;
+    let y = j0 * cb;
+    corner_columns(
+        lower,
+        c,
+        ld,
+        order,
+        k,
+        &a[x..],
+        ra,
+        ca,
+        &b[y..],
+        rb,
+        cb,
+        alpha,
     );
 }

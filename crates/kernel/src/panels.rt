@@ -11,13 +11,6 @@ use blocks::pass;
 use packing::Form;
 use packing::pack;
 
-// The smaller of two numbers.
-pub fn smaller(x: usize, y: usize) -> usize
-    ensures { λ r. ⌜ (r ≤ x) × (r ≤ y) × ((0 < x) → (0 < y) → 0 < r) ⌝ }
-{
-    if x < y { x } else { y }
-}
-
 // The index of the term that comes q-th of k.
 pub fn turn_of(down: bool, k: usize, q: usize) -> usize
     requires { ⌜ q < k ⌝ }
@@ -50,7 +43,7 @@ fn sweep(
 {
     let mut i = 0;
     while i < rows {
-        let h = smaller(r, rows - i);
+        let h = arrays::smaller(r, rows - i);
         pack::pack(u, h, terms, fa, a, lda, i0 + i, false, l0, down);
         block::block(&mut c[i..], ld, h, cols, terms, u, t);
         i += h;
@@ -85,7 +78,7 @@ fn panels(
 {
     let mut l = 0;
     while l < k {
-        let n = smaller(r, k - l);
+        let n = arrays::smaller(r, k - l);
         let l0 = turn_of(down, k, l);
         pack::pack(t, n, cols, fb, b, ldb, l0, down, j0, false);
         pass::scale(t, 64, n, cols, alpha);

@@ -10,7 +10,7 @@ ghost use Rattle.forms.specs.Forms.{opForm};
 ghost use Rattle.lines.specs.Lines.{coefficient, byColumns, Beside, RowOf, ColumnOf};
 use definitions::Transpose;
 use kernel::panels;
-use packing::pack;
+use packing::runs;
 
 // The first of the elements after element k, or before it.
 fn first_beside(after: bool, k: usize) -> usize
@@ -35,10 +35,10 @@ fn in_row(down: bool, n: usize, lo: usize, count: usize, a: &[f64], v: &mut [f64
 {
     if down {
         let to = n - (lo + count);
-        pack::reversed(&mut v[to..], count, a);
+        runs::reversed(&mut v[to..], count, a);
         return;
     }
-    pack::copy(&mut v[lo..], count, a);
+    runs::copy(&mut v[lo..], count, a);
 }
 
 // The elements below count of a become the q-th coefficients of the rows of v from lo on.
@@ -50,7 +50,7 @@ fn in_column(q: usize, lo: usize, count: usize, a: &[f64], v: &mut [f64])
         return;
     }
     let to = lo * 64 + q;
-    pack::spread(&mut v[to..], count, a);
+    runs::spread(&mut v[to..], count, a);
 }
 
 // Where the coefficients of an element stand in its column of A: the entries after the diagonal, or before it, of each column.

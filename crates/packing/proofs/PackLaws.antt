@@ -8,10 +8,11 @@ use Prim.Native.Nat.{ℕ, _+_, _-_, _*_, _<_, _≤_}
 use native.Mathlib.Omega.{arith}
 use lib.ListN.{length, take, drop}
 use lib.Ieee.{Float, nan}
+use borrow.Rule.Slice.PartMut.{putMid}
 use Rattle.arrays.specs.Update.{update, below, region}
 use Rattle.arrays.proofs.UpdateLaws.{lt-or-ge, below-same}
 use Rattle.arrays.proofs.PartLaws.{tail-at}
-use Rattle.arrays.proofs.RegionLaws.{region-same}
+use Rattle.arrays.proofs.RegionLaws.{region-same, region-columns}
 use Rattle.floats.specs.Array.{at}
 use Rattle.packing.specs.Factor.{Reads, isMirrored, isLower, mirroredForm, indexOf, entryOf, along}
 use Rattle.packing.specs.declared.Form.{Form}
@@ -146,3 +147,12 @@ one-row a down i y ld j n p w ys k e =
     tail-at (p * ld + j) a x nan
     ∙ ap (at a) (let z : p * ld + j + x ≡ along down i y * ld + (j + x) = omega arith in z)
     ∙ ap (λ (q : ℕ). at a (along down i q * ld + (j + x))) (omega arith))
+
+-- n lines more, whose elements are parts of rows of the array
+pub lines-more : (a : List Float) (down : Bool) (i ld j ny x n : ℕ) (l m ys : List Float) → ny ≤ 64 → x * 64 ≤ length l
+    → m ≡ update (region 64 ny x (λ y x _. at a (along down i y * ld + (j + x)))) l
+    → ys ≡ update (region 64 ny n (λ y r _. at a (along down i y * ld + (j + x + r)))) (take (length m - x * 64) (drop (x * 64) m))
+    → putMid (x * 64) (length m - x * 64) m ys ≡ update (region 64 ny (x + n) (λ y x _. at a (along down i y * ld + (j + x)))) l
+lines-more a down i ld j ny x n l m ys few fit em ey =
+    region-columns nan 64 (omega arith) ny x n (λ y x _. at a (along down i y * ld + (j + x))) l m ys few fit em
+    (ey ∙ region-same 64 ny n _ _ (take (length m - x * 64) (drop (x * 64) m)) (omega arith) (λ y r hy hr _. ap (at a) (omega arith)))

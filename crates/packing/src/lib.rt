@@ -2,6 +2,7 @@
 pub mod factor;
 pub mod mirror;
 pub mod pack;
+pub mod runs;
 
 // How an array holds a factor: as it is, transposed, or symmetric with only one triangle to be read.
 pub enum Form {

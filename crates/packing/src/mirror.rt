@@ -6,7 +6,7 @@ ghost use Rattle.arrays.specs.Update.{update, below, region};
 ghost use Rattle.floats.specs.Array.{at};
 ghost use Rattle.packing.specs.Factor.{isMirrored, isLower, mirroredForm, indexOf, entryOf};
 use super::Form;
-use super::pack;
+use super::runs;
 
 // The form mirrors one triangle.
 pub fn is_mirrored(form: Form) -> bool
@@ -46,18 +46,6 @@ fn rows_before(i: usize, n: usize, j: usize) -> usize
     j - i
 }
 
-// The first elements of n columns.
-fn gather(dest: &mut [f64], n: usize, a: &[f64], ld: usize)
-    requires { ⌜ (n ≤ length (now dest)) × ((y : ℕ) → y < n → y * ld < length (now a)) ⌝ }
-    ensures { λ _. ⌜ now (dest .exit) ≡ update (below n (λ y x. at (now (a .entry)) (y * ld))) (now (dest .entry)) ⌝ }
-{
-    let mut y = 0;
-    while y < n {
-        dest[y] = a[y * ld];
-        y += 1;
-    }
-}
-
 // n entries of column j, from row i on, where they are stored.
 fn stored(dest: &mut [f64], n: usize, a: &[f64], ld: usize, i: usize, j: usize)
     requires { ⌜ (n ≤ length (now dest)) × ((y : ℕ) → y < n → j * ld + (i + y) < length (now a)) ⌝ }
@@ -67,7 +55,7 @@ fn stored(dest: &mut [f64], n: usize, a: &[f64], ld: usize, i: usize, j: usize)
         return;
     }
     let from = j * ld + i;
-    pack::copy(dest, n, &a[from..]);
+    runs::copy(dest, n, &a[from..]);
 }
 
 // The same where they are mirrored: row j, from column i on.
@@ -79,7 +67,7 @@ fn mirrored(dest: &mut [f64], n: usize, a: &[f64], ld: usize, i: usize, j: usize
         return;
     }
     let from = i * ld + j;
-    gather(dest, n, &a[from..], ld);
+    runs::gather(dest, n, &a[from..], ld);
 }
 
 // n entries of column j, from row i on: those before the diagonal, then the others.

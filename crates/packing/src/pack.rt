@@ -1,6 +1,6 @@
 // Packing: a block of a factor into a buffer, line x and element y of the line at x * 64 + y.
 ghost use mathlib.Core.Path.{_≡_};
-ghost use Prim.Native.Nat.{ℕ, _+_, _-_, _*_, _≤_, _<_};
+ghost use Prim.Native.Nat.{ℕ, _+_, _*_, _≤_, _<_};
 ghost use lib.ListN.{length};
 ghost use Rattle.arrays.specs.Update.{update, below, region};
 ghost use Rattle.floats.specs.Array.{at};
@@ -9,6 +9,7 @@ use super::Form;
 use super::Way;
 use super::factor;
 use super::mirror;
+use super::runs;
 
 // A line of n entries of one column, from row i on up or down.
 fn line(
@@ -33,42 +34,6 @@ fn line(
     }
 }
 
-// The elements below n, one after the other.
-pub fn copy(dest: &mut [f64], n: usize, a: &[f64])
-    requires { ⌜ (n ≤ length (now dest)) × (n ≤ length (now a)) ⌝ }
-    ensures { λ _. ⌜ now (dest .exit) ≡ update (below n (λ y x. at (now (a .entry)) y)) (now (dest .entry)) ⌝ }
-{
-    let mut y = 0;
-    while y < n {
-        dest[y] = a[y];
-        y += 1;
-    }
-}
-
-// The elements below n, the last one first.
-pub fn reversed(dest: &mut [f64], n: usize, a: &[f64])
-    requires { ⌜ (n ≤ length (now dest)) × (n ≤ length (now a)) ⌝ }
-    ensures { λ _. ⌜ now (dest .exit) ≡ update (below n (λ y x. at (now (a .entry)) (n - 1 - y))) (now (dest .entry)) ⌝ }
-{
-    let mut y = 0;
-    while y < n {
-        dest[y] = a[n - 1 - y];
-        y += 1;
-    }
-}
-
-// The elements below n, each to a line of its own.
-pub fn spread(dest: &mut [f64], n: usize, a: &[f64])
-    requires { ⌜ (n * 64 < length (now dest) + 64) × (n ≤ length (now a)) ⌝ }
-    ensures { λ _. ⌜ now (dest .exit) ≡ update (region 64 1 n (λ y x _. at (now (a .entry)) x)) (now (dest .entry)) ⌝ }
-{
-    let mut x = 0;
-    while x < n {
-        dest[x * 64] = a[x];
-        x += 1;
-    }
-}
-
 // A block whose lines are parts of columns of the array, rows i and on.
 fn plain(
     dest: &mut [f64],
@@ -88,7 +53,7 @@ fn plain(
         let to = x * 64;
         let column = factor::step(across, j, x);
         let from = column * ld + i;
-        copy(&mut dest[to..], ny, &a[from..]);
+        runs::copy(&mut dest[to..], ny, &a[from..]);
         x += 1;
     }
 }
@@ -111,9 +76,36 @@ fn transposed(
     while y < ny {
         let column = factor::step(down, i, y);
         let from = column * ld + j;
-        spread(&mut dest[y..], nx, &a[from..]);
+        runs::spread(&mut dest[y..], nx, &a[from..]);
         y += 1;
     }
+}
+
+// The same, eight lines at a time: all of them at once, 64 elements apart, would drive each other out of the cache.
+fn tiles(
+    dest: &mut [f64],
+    ny: usize,
+    nx: usize,
+    a: &[f64],
+    ld: usize,
+    i: usize,
+    down: bool,
+    j: usize,
+)
+    requires { ⌜ (ny ≤ 64) × (0 < ny) × (nx * 64 ≤ length (now dest)) × Indices down i ny × ((y x : ℕ) → y < ny → x < nx → along down i y * ld + (j + x) < length (now a)) ⌝ }
+    ensures { λ _. ⌜ now (dest .exit) ≡ update (region 64 ny nx (λ y x _. at (now (a .entry)) (along down i y * ld + (j + x)))) (now (dest .entry)) ⌝ }
+{
+    let mut x = 0;
+    while x + 8 <= nx {
+        let to = x * 64;
+        transposed(&mut dest[to..], ny, 8, a, ld, i, down, j + x);
+        x += 8;
+    }
+    if x == nx {
+        return;
+    }
+    let last = x * 64;
+    transposed(&mut dest[last..], ny, nx - x, a, ld, i, down, j + x);
 }
 
 // A block entry by entry, in any form: line x and element y of the line at x * stride + y.
@@ -212,7 +204,7 @@ pub fn pack(
     let way = way_of(form, down, across, i, ny, j, nx);
     match way {
         Way::Columns => plain(dest, ny, nx, a, ld, i, j, across),
-        Way::Rows => transposed(dest, ny, nx, a, ld, i, down, j),
+        Way::Rows => tiles(dest, ny, nx, a, ld, i, down, j),
         Way::Mirrored => {
             let lower = mirror::is_lower(form);
             mirror::block(dest, 64, ny, nx, lower, a, ld, i, j);

@@ -1,4 +1,2 @@
-pub mod Masks
-pub mod Trapezoids
 pub mod Sums
 pub mod StripLaws

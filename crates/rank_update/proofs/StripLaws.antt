@@ -24,7 +24,8 @@ use Rattle.packing.specs.declared.Form.{Form}
 use Rattle.packing.specs.Factor.{indexOf}
 use Rattle.forms.specs.Forms.{opForm}
 use Rattle.forms.proofs.Rooms.{op-inside, some-term}
-use Rattle.rank_update.specs.Trapezoid.{trapezoid, isLower, transposedForm}
+use Rattle.kernel.specs.Product.{trapezoid}
+use Rattle.rank_update.specs.Options.{isLower, transposedForm}
 
 -- an entry of the transpose of op(A), where op(A) is p by q
 transposed-inside : (t : Transpose) (ld p q len : ℕ) → Room len ld (storedAs t p q) → (l j : ℕ) → l < q → j < p → indexOf (transposedForm t) ld l j < len

@@ -22,7 +22,7 @@ use Rattle.packing.specs.Factor.{Matrix, indexOf, entryOf}
 use Rattle.kernel.specs.Product.{turn, fromColumn, partly, product}
 use Rattle.forms.specs.Forms.{opForm}
 use Rattle.forms.proofs.Entries.{op-entry}
-use Rattle.rank_update.specs.Trapezoid.{transposedForm}
+use Rattle.rank_update.specs.Options.{transposedForm}
 
 -- ---- the sums, product after product
 

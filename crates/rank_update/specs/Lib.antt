@@ -1,1 +1,1 @@
-pub mod Trapezoid
+pub mod Options

@@ -9,13 +9,12 @@ ghost use Rattle.definitions.specs.Element.{StripOf};
 ghost use Rattle.definitions.specs.declared.Routine.the-variants.{Syrk, Syr2k};
 ghost use Rattle.definitions.proofs.Fits.{Fits};
 ghost use Rattle.packing.specs.Factor.{indexOf, entryOf};
-ghost use Rattle.kernel.specs.Product.{fromColumn, product};
-ghost use Rattle.rank_update.specs.Trapezoid.{trapezoid, isLower, transposedForm};
+ghost use Rattle.kernel.specs.Product.{fromColumn, product, trapezoid};
+ghost use Rattle.rank_update.specs.Options.{isLower, transposedForm};
 use definitions::Call;
 use definitions::Scalar;
 use definitions::Transpose;
 use definitions::Triangle;
-use kernel::triangle::pick;
 use packing::Form;
 
 fn is_lower(t: Triangle) -> bool
@@ -53,8 +52,8 @@ fn start_triangle(
     let mut j = 0;
     while j < cols {
         let g = from + j;
-        let top = pick(lower, g, 0);
-        let rows = pick(lower, n - g, g + 1);
+        let top = arrays::pick(lower, g, 0);
+        let rows = arrays::pick(lower, n - g, g + 1);
         let x = j * ld + top;
         start::column(&mut c[x..], rows, beta);
         j += 1;
@@ -95,8 +94,8 @@ fn add_columns(
     ensures { λ _. ⌜ now (c .exit) ≡ update (entries ld (only (trapezoid lower g n h) (product alpha (entryOf fa (now (a .entry)) lda) (fromColumn g (entryOf fb (now (b .entry)) ldb)) false k))) (now (c .entry)) ⌝ }
 {
     let end = g + h;
-    let top = pick(lower, end, 0);
-    let rows = pick(lower, n - end, g);
+    let top = arrays::pick(lower, end, 0);
+    let rows = arrays::pick(lower, n - end, g);
     kernel::triangle::triangle(
         lower,
         &mut c[g..],
@@ -161,7 +160,7 @@ fn add_product(
 {
     let mut j = 0;
     while j < cols {
-        let h = kernel::panels::smaller(r, cols - j);
+        let h = arrays::smaller(r, cols - j);
         let x = j * ld;
         add_columns(
             lower,

@@ -15,7 +15,7 @@ use lib.Ieee.{Float}
 use borrow.Author.Tests.{ne-eqb}
 use Rattle.arrays.proofs.Tests.{if-true, or-both, by-test}
 use Rattle.definitions.specs.Call.{empty, extent, strips}
-use Rattle.definitions.specs.Element.{strip, zeroOf}
+use Rattle.definitions.specs.Element.{zeroOf}
 use Rattle.definitions.specs.Check.{nat, negative, width, idle, checked}
 use Rattle.definitions.specs.Machine.{Act, work, stripsOf, closed, perform, counts}
 use Rattle.definitions.specs.Sheet.{Sheet, Arrays, A, field, routineOf, output, array, withArray, lengths, part, argsOf, widthOf, stripDone, accepted, act}

@@ -10,10 +10,10 @@ use lib.Dec.{ltb, eqb}
 use lib.IntN.{ℤ}
 use lib.ListN.{length, take, drop}
 use lib.Ieee.{Float}
-use borrow.Author.Tests.{ltb-true, ltb-false}
+use borrow.Author.Tests.{ltb-false}
 use borrow.Rule.Slice.PartMut.{putMid}
 use Rattle.arrays.proofs.PartLaws.{tail, put-tail}
-use Rattle.arrays.specs.Choice.{if_then_else_}
+use Rattle.arrays.specs.Choice.{if_then_else_, least}
 use Rattle.arrays.proofs.Tests.{if-true, if-false, by-test}
 use Rattle.definitions.specs.Storage.{needed}
 use Rattle.definitions.specs.Call.{inPlace, shapeB, shapeC, extent}
@@ -32,16 +32,7 @@ use Rattle.strips.specs.Lengths.{FitsArrays}
 use Rattle.records.specs.Judgement.{second, partAt}
 use Rattle.records.specs.declared.Part.{Part}
 use Rattle.records.proofs.Judgements.{field-is}
-use Rattle.sheet.specs.Lent.{least, stripAt, zeroAt, Lends}
-
--- ---- the smaller of two
-
-pub least-is : (a b : ℕ) → (least a b ≤ a) × (least a b ≤ b) × (0 < a → 0 < b → 0 < least a b)
-unfolding least
-least-is a b =
-    by-test (ltb a b)
-    (λ e. rw e (omega arith, omega (arith, ltb-true a b e), λ ha hb. ha))
-    (λ e. rw e (omega (arith, ltb-false a b e), omega arith, λ ha hb. hb))
+use Rattle.sheet.specs.Lent.{stripAt, zeroAt, Lends}
 
 -- ---- the arrays that are not the output's
 

@@ -2,10 +2,8 @@
 use Prim.Native.Nat.{ℕ, _-_, _≤_}
 use mathlib.Core.Path.{_≡_}
 use mathlib.Core.List.{List, _++_}
-use lib.Dec.{ltb}
 use lib.IntN.{ℤ}
 use lib.ListN.{length, take, drop}
-use Rattle.arrays.specs.Choice.{if_then_else_}
 use Rattle.definitions.specs.Element.{strip, zeroOf}
 use Rattle.definitions.specs.Sheet.{Arrays, array, withArray}
 use Rattle.definitions.specs.Run.{Ran}
@@ -17,9 +15,6 @@ use Rattle.records.specs.declared.Part.{Part}
 -- What a run handed back and left in the lent lists.
 abbrev pub ranOf : RunEnd → Arrays → List ℤ → Ran
 ranOf end arrays answers = record { end = end; arrays = arrays; answers = answers }
-
-unfoldable pub least : ℕ → ℕ → ℕ
-least a b = if ltb a b then a else b
 
 -- The arrays after the columns, or rows, from `from` on and below `to` of a call whose output, A and B are these matrices.
 unfoldable pub stripAt : Call → Part → Part → Part → ℕ → ℕ → Arrays → Arrays

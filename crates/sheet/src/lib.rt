@@ -5,7 +5,7 @@ ghost use mathlib.Core.List.{_++_};
 ghost use Prim.Native.Nat.{ℕ, _+_, _-_, _*_, _^_, _≤_, _<_};
 ghost use lib.IntN.{pos};
 ghost use lib.ListN.{length, take, drop};
-ghost use Rattle.arrays.specs.Choice.{if_then_else_};
+ghost use Rattle.arrays.specs.Choice.{if_then_else_, least};
 ghost use Rattle.arrays.specs.Search as Search;
 ghost use Rattle.definitions.specs.Call as Calls;
 ghost use Rattle.definitions.specs.Element as Element;
@@ -45,12 +45,6 @@ fn pick<'a>(first: bool, x: &'a [f64], y: &'a [f64]) -> &'a [f64]
     ensures { λ r. ⌜ now r ≡ (if first then now (x .entry) else now (y .entry)) ⌝ }
 {
     if first { x } else { y }
-}
-
-fn least(a: usize, b: usize) -> usize
-    ensures { λ r. ⌜ r ≡ Lent.least a b ⌝ }
-{
-    if a < b { a } else { b }
 }
 
 // The columns, or rows, from `from` on of a call, in blocks of r. The output is its array's part from `off` on; A is in x if `ina`, else in y, from `offa` on; so is B.
@@ -170,7 +164,7 @@ fn work(
     requires { ⌜ (at + 20 ≤ length (now sheet)) × (s * w < Calls.extent call) × (0 < w) × (w ≤ 64) × (0 < r) × (r ≤ 64) ⌝ }
     ensures { λ e. ⌜ (arraysOf (now (x .exit)) (now (y .exit)) (now (z .exit)) ≡ Lent.stripAt call (Judgement.partAt (now (sheet .entry)) at (Sheet.output (call .routine)))
         (Judgement.partAt (now (sheet .entry)) at Sheet.A) (Judgement.partAt (now (sheet .entry)) at (Judgement.second (call .routine)))
-        (s * w) (s * w + Lent.least w (Calls.extent call - s * w)) (arraysOf (now (x .entry)) (now (y .entry)) (now (z .entry))))
+        (s * w) (s * w + least w (Calls.extent call - s * w)) (arraysOf (now (x .entry)) (now (y .entry)) (now (z .entry))))
         × (e ≡ not (Check.negative (Lent.zeroAt call (Judgement.partAt (now (sheet .entry)) at Sheet.A) (arraysOf (now (x .entry)) (now (y .entry)) (now (z .entry)))))) ⌝ }
 {
     let routine = call.routine;
@@ -179,7 +173,7 @@ fn work(
     let b = records::part_at(sheet, at, records::second(routine));
     let d = arguments::extent(call);
     let from = s * w;
-    let cols = least(w, d - from);
+    let cols = arrays::smaller(w, d - from);
     !arguments::negative(put(call, out, a, b, x, y, z, from, cols, r))
 }
 

@@ -9,7 +9,7 @@ use native.Mathlib.Omega.{arith}
 use lib.ListN.{length, set, length-set}
 use lib.Seq.{getD-set-same, getD-set-other}
 use lib.Ieee.{Float, nan}
-use borrow.Author.Tests.{le-leb, lt-leb, leb-true, eq-eqb}
+use borrow.Author.Tests.{leb-true, eq-eqb}
 use Rattle.arrays.specs.Choice.{if_then_else_}
 use Rattle.arrays.specs.Update.{update, region}
 use Rattle.arrays.specs.Fold.{fold, among}
@@ -31,7 +31,7 @@ use Rattle.lines.specs.Lines.{cell, grid, lineTerm, coefficient, Beside}
 use Rattle.lines.proofs.GridLaws.{grid-at, grid-same}
 use Rattle.trmm.specs.Sum.{has, heldTerms, termFrom, Pivots}
 use Rattle.trmm.proofs.ChosenLaws.{buffer-room}
-use Rattle.trmm.proofs.SumLaws.{beside}
+use Rattle.trmm.proofs.SumLaws.{has-from, beside}
 
 -- ---- the entries of the diagonal
 
@@ -105,13 +105,6 @@ module _ (diag : Diagonal) (a : List Float) (lda p₀ : ℕ) where
       (same-or-not i p)
 
 -- ---- the terms
-
-has-from : (after : Bool) (p₀ q p : ℕ) → has after q p ≡ has after (p₀ + q) (p₀ + p)
-unfolding has
-has-from true p₀ q p =
-    ⊎-elim (λ (h : p < q). lt-leb q p h ∙ sym (lt-leb (p₀ + q) (p₀ + p) (omega arith))) (λ h. le-leb q p h ∙ sym (le-leb (p₀ + q) (p₀ + p) (omega arith))) (lt-or-ge p q)
-has-from false p₀ q p =
-    ⊎-elim (λ (h : q < p). lt-leb p q h ∙ sym (lt-leb (p₀ + p) (p₀ + q) (omega arith))) (λ h. le-leb p q h ∙ sym (le-leb (p₀ + p) (p₀ + q) (omega arith))) (lt-or-ge q p)
 
 -- the factors that are held, by the side: alpha is in u for side L and in v for side R
 term-left : (alpha : Float) (T : Matrix) (q p : ℕ) (e x v u : Float) → v ≡ coefficient true T q p → u ≡ alpha ⊗ x → e ⊕ v ⊗ u ≡ lineTerm true alpha T q e p x

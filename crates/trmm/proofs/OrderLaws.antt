@@ -1,4 +1,4 @@
--- The blocks one after the other: what a block reads is not done yet, so it is as at entry.
+-- The blocks one after the other, or the groups of one block: what a block reads is not done yet, so it is as at entry.
 -- Assumes nothing.
 use mathlib.Core.Bool.{Bool, true, false}
 use mathlib.Core.Path.{_≡_, refl, sym, ap, _∙_}
@@ -14,15 +14,12 @@ use Rattle.arrays.specs.Update.{update}
 use Rattle.arrays.proofs.Tests.{if-true, if-false, by-test}
 use Rattle.arrays.proofs.UpdateLaws.{lt-or-ge}
 use Rattle.floats.specs.Array.{at}
-use Rattle.floats.specs.Operations.{1f}
-use Rattle.definitions.specs.Storage.{withDiagonal}
-use Rattle.definitions.specs.declared.Diagonal.{Diagonal}
 use Rattle.packing.specs.Factor.{Matrix}
 use Rattle.lines.specs.Lines.{cell, grid, within, Room}
 use Rattle.lines.proofs.GridLaws.{within-in, grid-then, grid-same, grid-keep}
 use Rattle.trmm.specs.Sum.{has, sumOf, done}
 use Rattle.trmm.proofs.ChosenLaws.{within-out, within-bounds, kept-at}
-use Rattle.trmm.proofs.SumLaws.{sum-same}
+use Rattle.trmm.proofs.SumLaws.{has-own, sum-same}
 
 -- ---- the blocks that are done
 
@@ -68,36 +65,43 @@ module _ (m k n p₀ : ℕ) where
   not-done true q p next u v t = let e : p₀ ≡ k = next .0 refl in let w : q ≤ p = leb-true q p t in le-ltb p k (omega arith)
   not-done false q p next u v t = let e : p₀ + n + k ≡ m = next .1 refl in let w : p ≤ q = leb-true p q t in lt-leb m (p + k) (omega arith)
 
-module _ (left after : Bool) (alpha : Float) (diag : Diagonal) (M : Matrix) (ld m lines : ℕ) (pos : 0 < ld) where
-  abbrev T : Matrix
-  T = withDiagonal 1f diag M
+-- ---- the blocks one after the other
 
-  -- ---- the blocks one after the other
+module _ (left after : Bool) (ld m lines : ℕ) (f : ℕ → ℕ → Float → Float) (b : List Float) where
+  pub none-done : b ≡ update (grid left ld m lines (λ q l e. if done after m 0 q then f q l e else e)) b
+  none-done = grid-keep left ld m lines _ b (λ q l hq hl e. if-false (done after m 0 q) _ _ (done-none after m q hq))
 
-  module _ (b : List Float) where
-    pub none-done : b ≡ update (grid left ld m lines (λ q l e. if done after m 0 q then sumOf left after alpha T m (λ p. at b (cell left ld p l)) q else e)) b
-    none-done = grid-keep left ld m lines _ b (λ q l hq hl e. if-false (done after m 0 q) _ _ (done-none after m q hq))
+  pub all-done : (c : List Float) → 0 < ld → c ≡ update (grid left ld m lines (λ q l e. if done after m m q then f q l e else e)) b
+      → c ≡ update (grid left ld m lines f) b
+  all-done c pos e = e ∙ grid-same left ld m lines _ _ b pos (λ q l hq hl e. if-true (done after m m q) _ _ (done-all after m q hq))
 
-    pub all-done : (c : List Float) → c ≡ update (grid left ld m lines (λ q l e. if done after m m q then sumOf left after alpha T m (λ p. at b (cell left ld p l)) q else e)) b
-        → c ≡ update (grid left ld m lines (λ q l e. sumOf left after alpha T m (λ p. at b (cell left ld p l)) q)) b
-    all-done c e = e ∙ grid-same left ld m lines _ _ b pos (λ q l hq hl e. if-true (done after m m q) _ _ (done-all after m q hq))
+  -- the next block, whose elements were not done
+  pub more-done : (k n p₀ : ℕ) (g : ℕ → ℕ → Float → Float) (c r : List Float) → 0 < ld → Next m k n p₀ after
+      → c ≡ update (grid left ld m lines (λ q l e. if done after m k q then f q l e else e)) b
+      → r ≡ update (grid left ld m lines (λ q l e. if within p₀ n q then g q l e else e)) c
+      → ((q l : ℕ) → l < lines → p₀ ≤ q → q < p₀ + n → (e : Float) → g q l e ≡ f q l e)
+      → r ≡ update (grid left ld m lines (λ q l e. if done after m (k + n) q then f q l e else e)) b
+  more-done k n p₀ g c r pos next ec er same =
+      grid-then left ld m lines _ _ _ b c r pos ec er
+      (λ q l hq hl e.
+      by-test (within p₀ n q)
+      (λ w.
+      let v = within-bounds p₀ n q w in
+      if-true (within p₀ n q) _ _ w
+      ∙ ap (g q l) (if-false (done after m k q) _ _ (not-done m k n p₀ after q q next (v .0) (v .1) (has-own after q)))
+      ∙ same q l hl (v .0) (v .1) e
+      ∙ sym (if-true (done after m (k + n) q) _ _ (done-more m k n p₀ after q next hq ∙ if-true (within p₀ n q) _ _ w)))
+      (λ w.
+      if-false (within p₀ n q) _ _ w
+      ∙ ap (λ (t : Bool). if t then f q l e else e) (sym (done-more m k n p₀ after q next hq ∙ if-false (within p₀ n q) _ _ w))))
 
-    -- the next block: what it reads is not done, so it is as at entry
-    pub block-done : (k n p₀ : ℕ) (c r : List Float) → Room left ld m lines (length b) → Next m k n p₀ after
-        → c ≡ update (grid left ld m lines (λ q l e. if done after m k q then sumOf left after alpha T m (λ p. at b (cell left ld p l)) q else e)) b
-        → r ≡ update (grid left ld m lines (λ q l e. if within p₀ n q then sumOf left after alpha T m (λ p. at c (cell left ld p l)) q else e)) c
-        → r ≡ update (grid left ld m lines (λ q l e. if done after m (k + n) q then sumOf left after alpha T m (λ p. at b (cell left ld p l)) q else e)) b
-    block-done k n p₀ c r room next ec er =
-        grid-then left ld m lines _ _ _ b c r pos ec er
-        (λ q l hq hl e.
-        by-test (within p₀ n q)
-        (λ w.
-        let v = within-bounds p₀ n q w in
-        if-true (within p₀ n q) _ _ w
-        ∙ sum-same left after alpha T m _ _ q
-        (λ p hp t. kept-at left ld m lines (done after m k) nan _ b c p l room hp hl (not-done m k n p₀ after q p next (v .0) (v .1) t) ec)
-        ∙ sym (if-true (done after m (k + n) q) _ _ (done-more m k n p₀ after q next hq ∙ if-true (within p₀ n q) _ _ w)))
-        (λ w.
-        if-false (within p₀ n q) _ _ w
-        ∙ ap (λ (t : Bool). if t then sumOf left after alpha T m (λ p. at b (cell left ld p l)) q else e)
-        (sym (done-more m k n p₀ after q next hq ∙ if-false (within p₀ n q) _ _ w))))
+-- the next block of sums: what it reads is not done, so it is as at entry
+pub block-done : (left after : Bool) (alpha : Float) (T : Matrix) (ld m lines k n p₀ : ℕ) (b c r : List Float) → 0 < ld → Room left ld m lines (length b) → Next m k n p₀ after
+    → c ≡ update (grid left ld m lines (λ q l e. if done after m k q then sumOf left after alpha T m (λ p. at b (cell left ld p l)) q else e)) b
+    → r ≡ update (grid left ld m lines (λ q l e. if within p₀ n q then sumOf left after alpha T m (λ p. at c (cell left ld p l)) q else e)) c
+    → r ≡ update (grid left ld m lines (λ q l e. if done after m (k + n) q then sumOf left after alpha T m (λ p. at b (cell left ld p l)) q else e)) b
+block-done left after alpha T ld m lines k n p₀ b c r pos room next ec er =
+    more-done left after ld m lines _ b k n p₀ _ c r pos next ec er
+    (λ q l hl lo hi e.
+    sum-same left after alpha T m _ _ q
+    (λ p hp t. kept-at left ld m lines (done after m k) nan _ b c p l room hp hl (not-done m k n p₀ after q p next lo hi t) ec))

@@ -2,6 +2,7 @@
 -- Assumes nothing.
 use mathlib.Core.Bool.{Bool, true, false}
 use mathlib.Core.Path.{_≡_, refl, sym, ap, _∙_}
+use mathlib.Core.Logic.{⊎-elim}
 use Prim.Native.Nat.{ℕ, _+_, _<_, _≤_}
 use native.Mathlib.Nat.{zero-add}
 use native.Mathlib.Omega.{arith}
@@ -11,6 +12,7 @@ use Rattle.arrays.specs.Choice.{if_then_else_}
 use Rattle.arrays.specs.Fold.{fold, among}
 use Rattle.arrays.proofs.Tests.{if-both}
 use Rattle.arrays.proofs.FoldLaws.{fold-split, fold-same, fold-keep}
+use Rattle.arrays.proofs.UpdateLaws.{lt-or-ge}
 use Rattle.floats.specs.Operations.{_⊕_, _⊗_, 0f, 1f}
 use Rattle.definitions.specs.Storage.{withDiagonal}
 use Rattle.definitions.specs.declared.Diagonal.{Diagonal}
@@ -37,6 +39,44 @@ pub has-not-before : {after : Bool} (q p : ℕ) → after ≡ false → q < p �
 unfolding has
 has-not-before q p a h = rw (a, lt-leb p q h)
 
+pub has-own : (after : Bool) (q : ℕ) → has after q q ≡ true
+has-own true q = has-after q q refl (omega arith)
+has-own false q = has-before q q refl (omega arith)
+
+-- the same with both moved by p₀
+pub has-from : (after : Bool) (p₀ q p : ℕ) → has after q p ≡ has after (p₀ + q) (p₀ + p)
+unfolding has
+has-from true p₀ q p =
+    ⊎-elim (λ (h : p < q). lt-leb q p h ∙ sym (lt-leb (p₀ + q) (p₀ + p) (omega arith))) (λ h. le-leb q p h ∙ sym (le-leb (p₀ + q) (p₀ + p) (omega arith))) (lt-or-ge p q)
+has-from false p₀ q p =
+    ⊎-elim (λ (h : q < p). lt-leb p q h ∙ sym (lt-leb (p₀ + p) (p₀ + q) (omega arith))) (λ h. le-leb p q h ∙ sym (le-leb (p₀ + p) (p₀ + q) (omega arith))) (lt-or-ge q p)
+
+-- ---- the terms of a block of n elements from the p-th on, and of the elements on one side of it, for an element of the block
+
+module _ {E : Type 0} {after : Bool} (step : E → ℕ → E) (q p n rest m : ℕ) (e : E) (whole : p + n + rest ≡ m) (lo : p ≤ q) (hi : q < p + n) where
+  -- the terms after the block's are had by all of its elements, those before it by none
+  pub block-then-after : after ≡ true
+      → fold (λ e i. step e (p + n + i)) rest (fold (λ e i. among (has after q) step e (p + i)) n e) ≡ fold (among (has after q) step) m e
+  unfolding among
+  block-then-after a =
+      sym (ap (λ (k : ℕ). fold (among (has after q) step) k e) (sym whole)
+      ∙ fold-split (among (has after q) step) (p + n) rest e
+      ∙ ap (fold (λ e i. among (has after q) step e (p + n + i)) rest)
+      (fold-split (among (has after q) step) p n e
+      ∙ ap (fold (λ e i. among (has after q) step e (p + i)) n) (fold-keep _ p e (λ i b e. rw (has-not-after q i a (omega arith)))))
+      ∙ fold-same _ _ rest _ (λ i b e. rw (has-after q (p + n + i) a (omega arith))))
+
+  -- the terms before the block's are had by all of its elements, those after it by none
+  pub before-then-block : after ≡ false
+      → fold (λ e i. among (has after q) step e (p + i)) n (fold step p e) ≡ fold (among (has after q) step) m e
+  unfolding among
+  before-then-block a =
+      sym (ap (λ (k : ℕ). fold (among (has after q) step) k e) (sym whole)
+      ∙ fold-split (among (has after q) step) (p + n) rest e
+      ∙ fold-keep _ rest _ (λ i b e. rw (has-not-before q (p + n + i) a (omega arith)))
+      ∙ fold-split (among (has after q) step) p n e
+      ∙ ap (fold (λ e i. among (has after q) step e (p + i)) n) (fold-same _ _ p e (λ i b e. rw (has-before q i a (omega arith)))))
+
 -- ---- one term
 
 -- it reads one entry of op(A)
@@ -58,62 +98,39 @@ beside-term left alpha diag M q e p x h =
     same-entry left alpha M (withDiagonal 1f diag M) q e p x (sym (beside diag M q p h)) (sym (beside diag M p q (λ z. h (sym z))))
 
 module _ (left after : Bool) (alpha : Float) (T : Matrix) where
-  module _ (lo : ℕ) (x : ℕ → Float) (q : ℕ) (e : Float) (i : ℕ) where
-    term-in : has after q (lo + i) ≡ true → termFrom left after alpha T lo x q e i ≡ lineTerm left alpha T q e (lo + i) (x i)
-    unfolding termFrom among
-    term-in h = rw h
-
-    term-out : has after q (lo + i) ≡ false → termFrom left after alpha T lo x q e i ≡ e
-    unfolding termFrom among
-    term-out h = rw h
-
-    -- the value of a term that the element does not have is not read
-    term-same : (y : ℕ → Float) → (has after q (lo + i) ≡ true → x i ≡ y i) → termFrom left after alpha T lo x q e i ≡ termFrom left after alpha T lo y q e i
-    unfolding termFrom among
-    term-same y h = if-both (has after q (lo + i)) _ e _ e (λ k. ap (lineTerm left alpha T q e (lo + i)) (h k)) (λ _. refl)
-
   -- ---- the terms of a range
 
   module _ (x : ℕ → Float) (q : ℕ) where
-    terms-none : (lo n : ℕ) (e : Float) → ((i : ℕ) → i < n → has after q (lo + i) ≡ false) → fold (termFrom left after alpha T lo x q) n e ≡ e
-    terms-none lo n e h = fold-keep _ n e (λ i b e. term-out lo x q e i (h i b))
-
-    -- those below p, and those from p on
-    terms-split : (p n : ℕ) (e : Float)
-        → fold (termFrom left after alpha T 0 x q) (p + n) e
-        ≡ fold (termFrom left after alpha T p (λ i. x (p + i)) q) n (fold (termFrom left after alpha T 0 x q) p e)
+    -- the terms of all elements, counted from 0 on
+    whole-sum : (m : ℕ) (e : Float) → fold (among (has after q) (λ e p. lineTerm left alpha T q e p (x p))) m e ≡ fold (termFrom left after alpha T 0 x q) m e
     unfolding termFrom among
-    terms-split p n e =
-        fold-split _ p n e
-        ∙ fold-same _ _ n _ (λ i b e. ap (λ (k : ℕ). if has after q k then lineTerm left alpha T q e k (x (p + i)) else e) (zero-add (p + i)))
+    whole-sum m e = fold-same _ _ m e (λ p b e. ap (λ (k : ℕ). if has after q k then lineTerm left alpha T q e k (x p) else e) (sym (zero-add p)))
 
-    -- the terms after the block's are had by all of its elements, those before it by none
+    -- the terms of the block, and those after it
     pub sum-after : (p n rest m : ℕ) (e : Float) → p + n + rest ≡ m → after ≡ true → p ≤ q → q < p + n
         → fold (λ e i. lineTerm left alpha T q e (p + n + i) (x (p + n + i))) rest (fold (termFrom left after alpha T p (λ i. x (p + i)) q) n e)
         ≡ fold (termFrom left after alpha T 0 x q) m e
-    sum-after p n rest m e em a lo hi =
-        sym (ap (λ (k : ℕ). fold (termFrom left after alpha T 0 x q) k e) (sym em)
-        ∙ terms-split (p + n) rest e
-        ∙ ap (fold (termFrom left after alpha T (p + n) (λ i. x (p + n + i)) q) rest)
-        (terms-split p n e
-        ∙ ap (fold (termFrom left after alpha T p (λ i. x (p + i)) q) n) (terms-none 0 p e (λ i b. has-not-after q (0 + i) a (omega arith))))
-        ∙ fold-same _ _ rest _ (λ i b e. term-in (p + n) (λ i. x (p + n + i)) q e i (has-after q (p + n + i) a (omega arith))))
+    unfolding termFrom among
+    sum-after p n rest m e em a lo hi = block-then-after (λ e p. lineTerm left alpha T q e p (x p)) q p n rest m e em lo hi a ∙ whole-sum m e
 
-    -- the terms before the block's are had by all of its elements, those after it by none
+    -- the terms before the block, and its own
     pub sum-before : (p n rest m : ℕ) (e : Float) → p + n + rest ≡ m → after ≡ false → p ≤ q → q < p + n
         → fold (termFrom left after alpha T p (λ i. x (p + i)) q) n (fold (λ e i. lineTerm left alpha T q e (0 + i) (x (0 + i))) p e)
         ≡ fold (termFrom left after alpha T 0 x q) m e
+    unfolding termFrom among
     sum-before p n rest m e em a lo hi =
-        sym (ap (λ (k : ℕ). fold (termFrom left after alpha T 0 x q) k e) (sym em)
-        ∙ terms-split (p + n) rest e
-        ∙ fold-keep _ rest _ (λ i b e. term-out (p + n) (λ i. x (p + n + i)) q e i (has-not-before q (p + n + i) a (omega arith)))
-        ∙ terms-split p n e
-        ∙ ap (fold (termFrom left after alpha T p (λ i. x (p + i)) q) n)
-        (fold-same _ _ p e
-        (λ i b e. term-in 0 x q e i (has-before q (0 + i) a (omega arith)) ∙ ap (λ (k : ℕ). lineTerm left alpha T q e (0 + i) (x k)) (sym (zero-add i)))))
+        ap (fold (termFrom left after alpha T p (λ i. x (p + i)) q) n) (fold-same _ _ p e (λ i b e. ap (λ (k : ℕ). lineTerm left alpha T q e k (x k)) (zero-add i)))
+        ∙ before-then-block (λ e p. lineTerm left alpha T q e p (x p)) q p n rest m e em lo hi a
+        ∙ whole-sum m e
+
+    -- the value of a term that the element does not have is not read
+    term-same : (lo : ℕ) (e : Float) (i : ℕ) (y : ℕ → Float) → (has after q (lo + i) ≡ true → x i ≡ y i)
+        → termFrom left after alpha T lo x q e i ≡ termFrom left after alpha T lo y q e i
+    unfolding termFrom among
+    term-same lo e i y h = if-both (has after q (lo + i)) _ e _ e (λ k. ap (lineTerm left alpha T q e (lo + i)) (h k)) (λ _. refl)
 
   -- an element's sum does not read the elements whose terms it does not have
   pub sum-same : (m : ℕ) (x y : ℕ → Float) (q : ℕ) → ((p : ℕ) → p < m → has after q p ≡ true → x p ≡ y p)
       → sumOf left after alpha T m x q ≡ sumOf left after alpha T m y q
   unfolding sumOf
-  sum-same m x y q h = fold-same _ _ m 0f (λ p b e. term-same 0 x q e p y (λ k. h p b (ap (has after q) (sym (zero-add p)) ∙ k)))
+  sum-same m x y q h = fold-same _ _ m 0f (λ p b e. term-same x q 0 e p y (λ k. h p b (ap (has after q) (sym (zero-add p)) ∙ k)))

@@ -12,7 +12,8 @@ ghost use Rattle.definitions.specs.Storage.{withDiagonal};
 ghost use Rattle.definitions.specs.declared.Transpose.{Transpose as TransposeOf};
 ghost use Rattle.packing.specs.Factor.{indexOf, entryOf};
 ghost use Rattle.forms.specs.Forms.{opForm};
-ghost use Rattle.lines.specs.Lines.{cell, grid, coefficient, Room};
+ghost use Rattle.arrays.specs.Choice.{if_then_else_};
+ghost use Rattle.lines.specs.Lines.{cell, grid, within, coefficient, Room};
 ghost use Rattle.trmm.specs.Sum.{has, heldTerms, termFrom, Pivots};
 use blocks::block;
 use blocks::pass;
@@ -45,9 +46,9 @@ fn terms(after: bool, n: usize, j: usize) -> usize
     if after { n - j } else { j + 1 }
 }
 
-// The terms of n elements for these elements themselves, whose sums stand across in s; u and v hold the factors.
+// The terms of n elements for these elements themselves, whose sums stand across in s, as one small triangle; u and v hold the factors.
 fn walk(after: bool, s: &mut [f64], lines: usize, n: usize, u: &[f64], v: &[f64])
-    requires { ⌜ (n ≤ 64) × (lines ≤ 64) × (4096 ≤ length (now s)) × (4096 ≤ length (now u)) × (4096 ≤ length (now v)) ⌝ }
+    requires { ⌜ (n ≤ 64) × (lines ≤ 64) × (n * 64 ≤ length (now s)) × (n * 64 ≤ length (now u)) × (n * 64 + n ≤ length (now v) + 64) ⌝ }
     ensures { λ _. ⌜ now (s .exit) ≡ update (grid false 64 n lines (λ q l e. heldTerms after n (now (u .entry)) (now (v .entry)) q l e)) (now (s .entry)) ⌝ }
 {
     let mut j = 0;
@@ -62,14 +63,55 @@ fn walk(after: bool, s: &mut [f64], lines: usize, n: usize, u: &[f64], v: &[f64]
     }
 }
 
+// The terms of n elements for h of them, from the j-th on: those of the h for themselves, and of the elements on one side of them, in order.
+fn group(
+    after: bool,
+    s: &mut [f64],
+    lines: usize,
+    n: usize,
+    j: usize,
+    h: usize,
+    u: &[f64],
+    v: &[f64],
+)
+    requires { ⌜ (n ≤ 64) × (0 < h) × (j + h ≤ n) × (lines ≤ 64) × (4096 ≤ length (now s)) × (4096 ≤ length (now u)) × (4096 ≤ length (now v)) ⌝ }
+    ensures { λ _. ⌜ now (s .exit) ≡ update (grid false 64 n lines (λ q l e. if within j h q then heldTerms after n (now (u .entry)) (now (v .entry)) q l e else e)) (now (s .entry)) ⌝ }
+{
+    let x = j * 64;
+    let y = x + j;
+    if after {
+        let end = j + h;
+        let from = end * 64;
+        let w = x + end;
+        walk(after, &mut s[x..], lines, h, &u[x..], &v[y..]);
+        block::block(&mut s[x..], 64, lines, h, n - end, &u[from..], &v[w..]);
+        return;
+    }
+    block::block(&mut s[x..], 64, lines, h, j, u, &v[x..]);
+    walk(after, &mut s[x..], lines, h, &u[x..], &v[y..]);
+}
+
+// The terms of n elements for these elements themselves, group after group.
+fn groups(after: bool, s: &mut [f64], lines: usize, n: usize, u: &[f64], v: &[f64])
+    requires { ⌜ (n ≤ 64) × (lines ≤ 64) × (4096 ≤ length (now s)) × (4096 ≤ length (now u)) × (4096 ≤ length (now v)) ⌝ }
+    ensures { λ _. ⌜ now (s .exit) ≡ update (grid false 64 n lines (λ q l e. heldTerms after n (now (u .entry)) (now (v .entry)) q l e)) (now (s .entry)) ⌝ }
+{
+    let mut j = 0;
+    while j < n {
+        let h = block::small(n - j);
+        group(after, s, lines, n, j, h, u, v);
+        j += h;
+    }
+}
+
 // The same where the sums stand in z by columns: they are turned across and back.
-fn walk_turned(after: bool, z: &mut [f64], lines: usize, n: usize, u: &[f64], v: &[f64])
+fn groups_turned(after: bool, z: &mut [f64], lines: usize, n: usize, u: &[f64], v: &[f64])
     requires { ⌜ (0 < n) × (n ≤ 64) × (0 < lines) × (lines ≤ 64) × (4096 ≤ length (now z)) × (4096 ≤ length (now u)) × (4096 ≤ length (now v)) ⌝ }
     ensures { λ _. ⌜ now (z .exit) ≡ update (grid true 64 n lines (λ q l e. heldTerms after n (now (u .entry)) (now (v .entry)) q l e)) (now (z .entry)) ⌝ }
 {
     let mut s = [0.0f64; 4096];
     lines::take(true, false, &mut s, z, 64, n, lines, 0, n);
-    walk(after, &mut s, lines, n, u, v);
+    groups(after, &mut s, lines, n, u, v);
     lines::put(true, false, z, 64, n, lines, 0, n, &s);
 }
 
@@ -132,9 +174,9 @@ pub fn diagonal(
     triangle(left, after, diag, t, a, lda, p0, n, &mut v);
     if left {
         pass::scale(&mut x, 64, lines, n, alpha);
-        walk_turned(after, z, lines, n, &x, &v);
+        groups_turned(after, z, lines, n, &x, &v);
         return;
     }
     pass::scale(&mut v, 64, n, n, alpha);
-    walk(after, z, lines, n, &x, &v);
+    groups(after, z, lines, n, &x, &v);
 }

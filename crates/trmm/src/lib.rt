@@ -29,7 +29,6 @@ use definitions::Diagonal;
 use definitions::Scalar;
 use definitions::Side;
 use definitions::Transpose;
-use kernel::panels;
 
 // The first element of the next block of n, when k of m elements are done: from the first on if an element's terms lie after it, else from the last back.
 fn next_block(after: bool, m: usize, k: usize, n: usize) -> usize
@@ -61,7 +60,7 @@ fn sum_lines(
 {
     let mut k = 0;
     while k < m {
-        let n = panels::smaller(r, m - k);
+        let n = arrays::smaller(r, m - k);
         let p0 = next_block(after, m, k, n);
         block::block(
             left,

@@ -30,7 +30,7 @@ use Rattle.lines.specs.Lines.{cell, grid, within, lineTerm, Room}
 use Rattle.lines.proofs.GridLaws.{within-in, within-before, within-after, by-within, grid-same, grid-at, grid-lent}
 use Rattle.trsm.specs.Solve.{first, ordered, solution, stateOf, solving, front, solveTerm, solveEnd, blockValue, Step}
 use Rattle.trsm.proofs.FactorLaws.{shifted-term}
-use Rattle.trsm.proofs.OrderLaws.{turn-first, within-turn, ordered-at}
+use Rattle.trsm.proofs.OrderLaws.{turn-from, within-turn, ordered-at}
 use Rattle.trsm.proofs.StateLaws.{value-from, value-only, block-ended, front-in}
 
 -- ---- the diagonal
@@ -67,77 +67,6 @@ element-unknown true m p n x0 r i h e hr ei = let k : x0 + (p + n) ≡ m = omega
     last k = omega arith
 element-unknown false m p n x0 r i h e hr ei = omega arith
 
-module _ (left down : Bool) (ld m lines : ℕ) (diag : Diagonal) (T : Matrix) (p n x0 : ℕ) (b : List Float) (line : ℕ → ℕ → Float)
-    (pos : 0 < ld) (low : p + n ≤ m) (ex : x0 ≡ first down m p n) (room : Room left ld m lines (length b))
-    (begin : (i l : ℕ) → i < n → l < lines → line l i ≡ at b (cell left ld (x0 + i) l)) where
-  abbrev block : Matrix
-  block i j = T (x0 + i) (x0 + j)
-
-  index : (q : ℕ) → q < n → x0 + turn down n q ≡ turn down m (p + q)
-  index q hq = ap (λ (k : ℕ). k + turn down n q) ex ∙ turn-first down m p n q low hq
-
-  abbrev value : ℕ → ℕ → Float
-  value q l = blockValue left down n diag block (line l) q
-
-  module _ (start : ℕ → ℕ → Float) (k : ℕ → ℕ) (b₀ : List Float)
-      (eb : b ≡ update (solving left down ld m lines nan (solveTerm left down m T) (solveEnd diag down m T) start (front (p + n) p k)) b₀) where
-    abbrev solved : ℕ → ℕ → Float
-    solved l q = solution nan (solveTerm left down m T) (solveEnd diag down m T) (start l) (p + q)
-
-    -- its sums have p terms
-    begun : (q l : ℕ) → q < n → l < lines → stateOf nan (solveTerm left down m T) (solveEnd diag down m T) (start l) p (p + q) ≡ line l (turn down n q)
-    unfolding solving
-    begun q l hq hl =
-        ap (λ (j : ℕ). stateOf nan (solveTerm left down m T) (solveEnd diag down m T) (start l) j (p + q)) (sym (front-in (p + n) p k (p + q) (omega arith)))
-        ∙ sym (ordered-at left down ld m lines nan _ b₀ b (p + q) l (subst (λ (z : ℕ). Room left ld m lines z) (ap length eb ∙ length-update _ b₀) room) (omega arith) hl eb)
-        ∙ ap (λ (i : ℕ). at b (cell left ld i l)) (sym (index q hq))
-        ∙ sym (begin (turn down n q) l (turn-below down n q hq) hl)
-
-    -- its unknowns follow from one another
-    follows : (l : ℕ) → l < lines → (q : ℕ) → q < n
-        → solved l q ≡ solveEnd diag down n block q (fold (λ e s. solveTerm left down n block q e s (solved l s)) q (line l (turn down n q)))
-    unfolding solveEnd solveTerm
-    follows l hl q hq =
-        value-from nan (solveTerm left down m T) (solveEnd diag down m T) (start l) p q
-        ∙ ap₂ (λ (e y : Float). divided diag e y)
-        (ap (λ (e : Float). fold (λ e s. lineTerm left −1f T (turn down m (p + q)) e (turn down m (p + s)) (solved l s)) q e) (begun q l hq hl)
-        ∙ fold-same _ _ q _
-        (λ s hs e.
-        ap₂ (λ (i j : ℕ). lineTerm left −1f T i e j (solved l s)) (sym (index q hq)) (sym (index s (omega arith)))
-        ∙ sym (shifted-term left T x0 (turn down n q) (turn down n s) e (solved l s))))
-        (ap (λ (i : ℕ). T i i) (sym (index q hq)))
-
-    value-solved : (q l : ℕ) → q < n → l < lines → value q l ≡ solved l q
-    unfolding blockValue
-    value-solved q l hq hl =
-        sym (value-only nan (solveTerm left down n block) (solveEnd diag down n block) (λ q. line l (turn down n q)) (solved l) n (follows l hl) q hq)
-
-  -- its elements get the values w
-  block-step : (w : ℕ → ℕ → Float) (c : List Float) → ((i l : ℕ) → i < n → l < lines → w i l ≡ value (turn down n i) l)
-      → c ≡ update (grid left ld m lines (λ i l e. if within x0 n i then w (i - x0) l else e)) b
-      → Step left down ld m lines diag T (front (p + n) p) (front (p + n) (p + n)) b c
-  unfolding ordered
-  block-step w c ew ec start k b₀ eb =
-      block-ended nan (solveTerm left down m T) (solveEnd diag down m T) left down ld m lines start b₀ pos p n k value b c
-      (value-solved start k b₀ eb) eb
-      (ec ∙ grid-same left ld m lines _ _ b pos
-      (λ i l hi hl e.
-      by-within x0 n i _ _ _
-      (λ lo up.
-      ew (i - x0) l (omega arith) hl
-      ∙ ap (λ (q : ℕ). value q l) (element-unknown down m p n x0 (i - x0) i low ex (omega arith) (omega arith))
-      ∙ chosen i l e hi (within-in x0 n i lo up))
-      (λ lo. chosen i l e hi (within-before x0 n i lo))
-      (λ up. chosen i l e hi (within-after x0 n i up))))
-    where
-      chosen : {t : Bool} (i l : ℕ) (e : Float) → i < m → within x0 n i ≡ t
-          → (if t then value (turn down m i - p) l else e) ≡ (if within p n (turn down m i) then value (turn down m i - p) l else e)
-      chosen i l e hi et =
-          ap (λ (t : Bool). if t then value (turn down m i - p) l else e)
-          (sym et ∙ ap (λ (k : ℕ). within k n i) ex ∙ within-turn down m p n i low hi)
-
--- ---- the block in B
-
 -- the place of its elements on side R
 module _ {left : Bool} (ld x0 : ℕ) where
   right-corner : left ≡ false → x0 * ld ≡ cell left ld x0 0
@@ -148,17 +77,116 @@ module _ {left : Bool} (ld x0 : ℕ) where
   unfolding cell
   right-cell i l e = rw (e, add-mul x0 i ld) (omega arith)
 
+-- its terms and the ends of its sums are those of all unknowns, from the p-th on
+module _ (term term′ : ℕ → Float → ℕ → Float → Float) (finish finish′ : ℕ → Float → Float) (left down : Bool) (ld m lines p n x0 : ℕ) (b : List Float)
+    (pos : 0 < ld) (low : p + n ≤ m) (ex : x0 ≡ first down m p n) (room : Room left ld m lines (length b))
+    (same-term : (q s : ℕ) → s < q → q < n → (e x : Float) → term (p + q) e (p + s) x ≡ term′ q e s x)
+    (same-end : (q : ℕ) → q < n → (e : Float) → finish (p + q) e ≡ finish′ q e)
+    (start : ℕ → ℕ → Float) (k : ℕ → ℕ) (b₀ : List Float)
+    (eb : b ≡ update (solving left down ld m lines nan term finish start (front (p + n) p k)) b₀) where
+  abbrev solved : ℕ → ℕ → Float
+  solved l q = solution nan term finish (start l) (p + q)
+
+  module _ (line : ℕ → ℕ → Float) (begin : (i l : ℕ) → i < n → l < lines → line l i ≡ at b (cell left ld (x0 + i) l)) where
+    abbrev value : ℕ → ℕ → Float
+    value q l = solution nan term′ finish′ (λ q. line l (turn down n q)) q
+
+    -- its sums have p terms
+    begun : (q l : ℕ) → q < n → l < lines → stateOf nan term finish (start l) p (p + q) ≡ line l (turn down n q)
+    unfolding solving
+    begun q l hq hl =
+        ap (λ (j : ℕ). stateOf nan term finish (start l) j (p + q)) (sym (front-in (p + n) p k (p + q) (omega arith)))
+        ∙ sym (ordered-at left down ld m lines nan _ b₀ b (p + q) l (subst (λ (z : ℕ). Room left ld m lines z) (ap length eb ∙ length-update _ b₀) room) (omega arith) hl eb)
+        ∙ ap (λ (i : ℕ). at b (cell left ld i l)) (turn-from down m p n x0 q low ex hq)
+        ∙ sym (begin (turn down n q) l (turn-below down n q hq) hl)
+
+    -- its unknowns follow from one another
+    value-solved : (q l : ℕ) → q < n → l < lines → value q l ≡ solved l q
+    value-solved q l hq hl =
+        sym
+        (value-only nan term′ finish′ (λ q. line l (turn down n q)) (solved l) n
+        (λ q hq.
+        value-from nan term finish (start l) p q
+        ∙ same-end q hq _
+        ∙ ap (finish′ q)
+        (ap (fold (λ e s. term (p + q) e (p + s) (solved l s)) q) (begun q l hq hl)
+        ∙ fold-same _ _ q _ (λ s hs e. same-term q s hs hq e (solved l s))))
+        q hq)
+
+    -- its elements get the values w
+    block-step : (w : ℕ → ℕ → Float) (c : List Float) → ((i l : ℕ) → i < n → l < lines → w i l ≡ value (turn down n i) l)
+        → c ≡ update (grid left ld m lines (λ i l e. if within x0 n i then w (i - x0) l else e)) b
+        → c ≡ update (solving left down ld m lines nan term finish start (front (p + n) (p + n) k)) b₀
+    unfolding ordered
+    block-step w c ew ec =
+        block-ended nan term finish left down ld m lines start b₀ pos p n k value b c value-solved eb
+        (ec ∙ grid-same left ld m lines _ _ b pos
+        (λ i l hi hl e.
+        by-within x0 n i _ _ _
+        (λ lo up.
+        ew (i - x0) l (omega arith) hl
+        ∙ ap (λ (q : ℕ). value q l) (element-unknown down m p n x0 (i - x0) i low ex (omega arith) (omega arith))
+        ∙ chosen i l e hi (within-in x0 n i lo up))
+        (λ lo. chosen i l e hi (within-before x0 n i lo))
+        (λ up. chosen i l e hi (within-after x0 n i up))))
+      where
+        chosen : {t : Bool} (i l : ℕ) (e : Float) → i < m → within x0 n i ≡ t
+            → (if t then value (turn down m i - p) l else e) ≡ (if within p n (turn down m i) then value (turn down m i - p) l else e)
+        chosen i l e hi et =
+            ap (λ (t : Bool). if t then value (turn down m i - p) l else e)
+            (sym et ∙ ap (λ (k : ℕ). within k n i) ex ∙ within-turn down m p n i low hi)
+
+  -- its lines are solved where they are
+  module _ (to : ℕ) (el : left ≡ false) (et : to ≡ x0 * ld) where
+    abbrev lent : ℕ → ℕ → Float
+    lent l i = at (take (length b - to) (drop to b)) (cell false ld i l)
+
+    lent-begin : (i l : ℕ) → i < n → l < lines → lent l i ≡ at b (cell left ld (x0 + i) l)
+    lent-begin i l hi hl = tail-at to b (cell false ld i l) nan ∙ ap (at b) (ap (λ (k : ℕ). k + cell false ld i l) et ∙ right-cell ld x0 i l el)
+
+    pub lent-value : (q l : ℕ) → q < n → l < lines → solution nan term′ finish′ (λ q. lent l (turn down n q)) q ≡ solved l q
+    lent-value = value-solved lent lent-begin
+
+    pub lent-block : (ys : List Float) → to ≤ length b → x0 + n ≤ m
+        → ys ≡ update (ordered false down ld n lines (λ q l _. solution nan term′ finish′ (λ q. lent l (turn down n q)) q)) (take (length b - to) (drop to b))
+        → putMid to (length b - to) b ys ≡ update (solving left down ld m lines nan term finish start (front (p + n) (p + n) k)) b₀
+    unfolding ordered
+    lent-block ys tl inside ey =
+        block-step lent lent-begin w _ (λ i l hi hl. refl)
+        (grid-lent nan left ld m lines x0 n to (λ i l _. w (i - x0) l) (λ i l _. w i l) b ys pos room inside (et ∙ right-corner ld x0 el) tl
+        (ey ∙ ap (λ (side : Bool). update (grid side ld n lines (λ i l _. w i l)) (take (length b - to) (drop to b))) (sym el))
+        (λ i l hi hl x. ap (λ (j : ℕ). w j l) (omega arith)))
+      where
+        w : ℕ → ℕ → Float
+        w i l = solution nan term′ finish′ (λ q. lent l (turn down n q)) (turn down n i)
+
+-- ---- the block in B
+
 module _ (left down : Bool) (ld m lines : ℕ) (diag : Diagonal) (T : Matrix) (p n x0 : ℕ) (b : List Float)
     (pos : 0 < ld) (low : p + n ≤ m) (ex : x0 ≡ first down m p n) (room : Room left ld m lines (length b)) where
+  abbrev block : Matrix
+  block i j = T (x0 + i) (x0 + j)
+
+  block-term : (q s : ℕ) → s < q → q < n → (e x : Float) → solveTerm left down m T (p + q) e (p + s) x ≡ solveTerm left down n block q e s x
+  unfolding solveTerm
+  block-term q s hs hq e x =
+      ap₂ (λ (i j : ℕ). lineTerm left −1f T i e j x) (turn-from down m p n x0 q low ex hq) (turn-from down m p n x0 s low ex (omega arith))
+      ∙ sym (shifted-term left T x0 (turn down n q) (turn down n s) e x)
+
+  block-end : (q : ℕ) → q < n → (e : Float) → solveEnd diag down m T (p + q) e ≡ solveEnd diag down n block q e
+  unfolding solveEnd
+  block-end q hq e = ap (λ (i : ℕ). divided diag e (T i i)) (turn-from down m p n x0 q low ex hq)
+
   -- its lines go to s and come back solved
   pub copied-step : (s₀ s w c : List Float) → Room false 64 n lines (length s₀)
       → s ≡ update (grid false 64 n lines (λ i l _. at b (cell left ld (x0 + i) l))) s₀
-      → w ≡ update (ordered false down 64 n lines (λ q l _. blockValue left down n diag (λ i j. T (x0 + i) (x0 + j)) (λ i. at s (cell false 64 i l)) q)) s
+      → w ≡ update (ordered false down 64 n lines (λ q l _. blockValue left down n diag block (λ i. at s (cell false 64 i l)) q)) s
       → c ≡ update (grid left ld m lines (λ i l e. if within x0 n i then at w (cell false 64 (i - x0) l) else e)) b
       → Step left down ld m lines diag T (front (p + n) p) (front (p + n) (p + n)) b c
-  unfolding ordered
-  copied-step s₀ s w c few es ew ec =
-      block-step left down ld m lines diag T p n x0 b (λ l i. at s (cell false 64 i l)) pos low ex room
+  unfolding ordered blockValue
+  copied-step s₀ s w c few es ew ec start k b₀ eb =
+      block-step (solveTerm left down m T) (solveTerm left down n block) (solveEnd diag down m T) (solveEnd diag down n block) left down ld m lines p n x0 b
+      pos low ex room block-term block-end start k b₀ eb (λ l i. at s (cell false 64 i l))
       (λ i l hi hl. grid-at nan false 64 n lines _ s₀ s i l few hi hl es)
       (λ i l. at w (cell false 64 i l)) c
       (λ i l hi hl. grid-at nan false 64 n lines _ s w i l (subst (λ (k : ℕ). Room false 64 n lines k) (sym (ap length es ∙ length-update _ s₀)) few) hi hl ew)
@@ -166,19 +194,9 @@ module _ (left down : Bool) (ld m lines : ℕ) (diag : Diagonal) (T : Matrix) (p
 
   -- they are solved where they are
   pub lent-step : (to : ℕ) (ys : List Float) → left ≡ false → to ≡ x0 * ld → to ≤ length b → x0 + n ≤ m
-      → ys ≡ update (ordered false down ld n lines (λ q l _. blockValue left down n diag (λ i j. T (x0 + i) (x0 + j)) (λ i. at (take (length b - to) (drop to b)) (cell false ld i l)) q)) (take (length b - to) (drop to b))
+      → ys ≡ update (ordered false down ld n lines (λ q l _. blockValue left down n diag block (λ i. at (take (length b - to) (drop to b)) (cell false ld i l)) q)) (take (length b - to) (drop to b))
       → Step left down ld m lines diag T (front (p + n) p) (front (p + n) (p + n)) b (putMid to (length b - to) b ys)
-  unfolding ordered
-  lent-step to ys el et tl inside ey =
-      block-step left down ld m lines diag T p n x0 b line pos low ex room
-      (λ i l hi hl. tail-at to b (cell false ld i l) nan ∙ ap (at b) (ap (λ (k : ℕ). k + cell false ld i l) et ∙ right-cell ld x0 i l el))
-      value _ (λ i l hi hl. refl)
-      (grid-lent nan left ld m lines x0 n to (λ i l _. value (i - x0) l) (λ i l _. value i l) b ys pos room inside (et ∙ right-corner ld x0 el) tl
-      (ey ∙ ap (λ (side : Bool). update (grid side ld n lines (λ i l _. value i l)) (take (length b - to) (drop to b))) (sym el))
-      (λ i l hi hl x. ap (λ (j : ℕ). value j l) (omega arith)))
-    where
-      line : ℕ → ℕ → Float
-      line l i = at (take (length b - to) (drop to b)) (cell false ld i l)
-
-      value : ℕ → ℕ → Float
-      value i l = blockValue left down n diag (λ i j. T (x0 + i) (x0 + j)) (line l) (turn down n i)
+  unfolding blockValue
+  lent-step to ys el et tl inside ey start k b₀ eb =
+      lent-block (solveTerm left down m T) (solveTerm left down n block) (solveEnd diag down m T) (solveEnd diag down n block) left down ld m lines p n x0 b
+      pos low ex room block-term block-end start k b₀ eb to el et ys tl inside ey

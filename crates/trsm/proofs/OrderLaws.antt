@@ -21,11 +21,11 @@ unfolding turn
 turn-turn true m q h = omega arith
 turn-turn false m q h = refl
 
--- the t-th of n unknowns from the p-th on
-pub turn-first : (down : Bool) (m p n t : ℕ) → p + n ≤ m → t < n → first down m p n + turn down n t ≡ turn down m (p + t)
+-- the t-th of n unknowns from the p-th on, whose least index is x
+pub turn-from : (down : Bool) (m p n x t : ℕ) → p + n ≤ m → x ≡ first down m p n → t < n → turn down m (p + t) ≡ x + turn down n t
 unfolding turn first
-turn-first true m p n t h b = omega arith
-turn-first false m p n t h b = refl
+turn-from true m p n x t h e b = omega arith
+turn-from false m p n x t h e b = omega arith
 
 pub first-one : (down : Bool) (m q : ℕ) → first down m q 1 ≡ turn down m q
 unfolding turn first

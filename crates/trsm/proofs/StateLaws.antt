@@ -43,7 +43,7 @@ module _ {A : Type 0} (d : A) (term : ℕ → A → ℕ → A → A) (finish : �
     unfolding solution next sumAfter
     value-is q = ap (finish q) (fold-same _ _ q (start q) (λ p b e. ap (term q e p) (solved-at d (next d term finish start) p q b)))
 
-    state-done : (k q : ℕ) → q < k → state k q ≡ value q
+    pub state-done : (k q : ℕ) → q < k → state k q ≡ value q
     unfolding stateOf
     state-done k q h = rw (lt-ltb q k h)
 
@@ -51,7 +51,7 @@ module _ {A : Type 0} (d : A) (term : ℕ → A → ℕ → A → A) (finish : �
     unfolding stateOf
     state-open k q h = rw (le-ltb q k h)
 
-    state-start : (q : ℕ) → state 0 q ≡ start q
+    pub state-start : (q : ℕ) → state 0 q ≡ start q
     unfolding sumAfter
     state-start q = state-open 0 q (omega arith) ∙ fold-none _ (start q)
 

@@ -23,7 +23,7 @@ use Rattle.kernel.proofs.PanelLaws.{turn-below}
 use Rattle.lines.specs.Lines.{cell, grid, within, lineTerm, Room}
 use Rattle.lines.proofs.GridLaws.{grid-same, grid-at}
 use Rattle.trsm.specs.Solve.{first, ordered, front, solveTerm, solveEnd, Step}
-use Rattle.trsm.proofs.OrderLaws.{turn-turn, turn-first, within-turn}
+use Rattle.trsm.proofs.OrderLaws.{turn-turn, turn-from, within-turn}
 use Rattle.trsm.proofs.StateLaws.{narrower, wider, rest-more, held}
 
 pub minus-one : neg (ofBits binary64 0x3ff0_0000_0000_0000) ≡ −1f
@@ -70,7 +70,7 @@ module _ (left down : Bool) (ld m lines : ℕ) (diag : Diagonal) (T : Matrix) (p
       ∙ ap (λ (w : ℕ). lineTerm left −1f T w f (turn down m (p + s)) (at x (cell left 64 (turn down n s) l))) (sym (turn-turn down m j hj))))))
     where
       index : (s : ℕ) → s < n → x0 + turn down n s ≡ turn down m (p + s)
-      index s hs = ap (λ (z : ℕ). z + turn down n s) ex ∙ turn-first down m p n s (omega arith) hs
+      index s hs = sym (turn-from down m p n x0 s (omega arith) ex hs)
 
   -- at the end of that loop
   pub terms-done : (p n to : ℕ) (b c : List Float)

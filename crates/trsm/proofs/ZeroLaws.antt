@@ -94,10 +94,14 @@ module _ (down : Bool) (m : ℕ) (diag : Diagonal) (T : Matrix) where
   zero-none = lowest-none _ m (λ i b. rw (leb·zero (turn down m i), le-ltb (turn down m i) 0 (omega arith)))
 
   -- of a block, in which the lowest is z
+  pub zero-found : (p n x0 z : ℕ) → p + n ≤ m → x0 ≡ first down m p n → x0 + n ≤ m → Lowest (λ i. zeroAt (x0 + i)) n z
+      → LowestZero p (p + n) (if ltb z n then x0 + z else m)
+  zero-found p n x0 z h e low k = by-unknown p n x0 _ h e (lowest-of zeroAt m x0 n low z k)
+
   pub zero-block : (p n x0 z x : ℕ) → p + n ≤ m → x0 ≡ first down m p n → x0 + n ≤ m → Lowest (λ i. zeroAt (x0 + i)) n z → x ≡ lower m (ltb z n) (x0 + z) → LowestZero p (p + n) x
   zero-block p n x0 z x h e low k ex =
       rw ex
-      (lower-joins (λ _. false) _ m m (ltb z n) (x0 + z) (lowest-none _ m (λ _ _. refl)) (by-unknown p n x0 _ h e (lowest-of zeroAt m x0 n low z k)))
+      (lower-joins (λ _. false) _ m m (ltb z n) (x0 + z) (lowest-none _ m (λ _ _. refl)) (zero-found p n x0 z h e low k))
 
   -- of the first q unknowns, and of those after them: i, if it was found
   pub zero-more : (q e r x : ℕ) (found : Bool) (i : ℕ) → q ≤ e → LowestZero 0 q r → LowestZero q e (if found then i else m) → x ≡ lower r found i → LowestZero 0 e x

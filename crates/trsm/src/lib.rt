@@ -6,7 +6,6 @@ ghost use mathlib.Core.List.{List};
 ghost use Prim.Native.Nat.{ℕ, _+_, _*_, _≤_, _<_};
 ghost use lib.ListN.{length};
 ghost use lib.Ieee.{Float};
-ghost use Rattle.arrays.specs.Choice.{if_then_else_};
 ghost use Rattle.arrays.specs.Update.{update, below};
 ghost use Rattle.arrays.specs.Search as Search;
 ghost use Rattle.arrays.specs.Search.{Lowest};
@@ -33,7 +32,7 @@ use definitions::Side;
 use definitions::Transpose;
 use kernel::panels;
 use lines::triangle;
-use packing::pack;
+use packing::runs;
 
 // The least index of the unknowns from the p-th on, n of them.
 fn least(down: bool, m: usize, p: usize, n: usize) -> usize
@@ -79,7 +78,7 @@ fn update_rest(
     let x0 = least(down, m, p, n);
     lines::take(left, left, &mut x, b, ld, m, lines, x0, n);
     while i < m {
-        let h = panels::smaller(w, m - i);
+        let h = arrays::smaller(w, m - i);
         let y = least(down, m, i, h);
         lines::add_terms(
             left,
@@ -164,15 +163,52 @@ fn value_factors(left: bool, u: &mut [f64], lines: usize, s: &[f64])
     requires { ⌜ (lines ≤ length (now u)) × (lines ≤ length (now s)) ⌝ }
     ensures { λ _. ⌜ now (u .exit) ≡ update (below lines (λ l _. valueFactor left (at (now (s .entry)) l))) (now (u .entry)) ⌝ }
 {
-    pack::copy(u, lines, s);
+    runs::copy(u, lines, s);
     if left {
         pass::scale_column(u, lines, -1.0);
     }
 }
 
-// The n unknowns of the diagonal block that starts at a[0], one after the other. Lines stand across in s, element i of line l at i * ld + l; v has the factors of the entries, and u takes those of
+// The n unknowns of a small triangle that starts at a[0], one after the other. Lines stand across in s, element i of line l at i * ld + l; v has the factors of the entries, and u takes those of
 // the unknowns.
 fn solve_unknowns(
+    left: bool,
+    down: bool,
+    diag: Diagonal,
+    s: &mut [f64],
+    ld: usize,
+    lines: usize,
+    n: usize,
+    a: &[f64],
+    lda: usize,
+    u: &mut [f64],
+    v: &[f64],
+) -> usize
+    requires { ⌜ (n ≤ 64) × (0 < lines) × (lines ≤ 64) × (n * 64 ≤ length (now u)) × (n * 64 + n ≤ length (now v) + 64) × ((i : ℕ) → i < n → i * lda + i < length (now a)) ⌝ }
+    requires { ⌜ Room false ld n lines (length (now s)) ⌝ }
+    ensures { λ r. ⌜ (now (s .exit) ≡ update (ordered false down ld n lines (λ q l _. packedValue left down n diag (entryOf Plain (now (a .entry)) lda) (now (v .entry)) (λ i. at (now (s .entry)) (cell false ld i l)) q)) (now (s .entry)))
+        × (now (u .exit) ≡ update (grid false 64 n lines (λ q l _. valueFactor left (packedValue left down n diag (entryOf Plain (now (a .entry)) lda) (now (v .entry)) (λ i. at (now (s .entry)) (cell false ld i l)) q))) (now (u .entry)))
+        × Lowest (λ i. byZero diag (entryOf Plain (now (a .entry)) lda i i)) n r ⌝ }
+{
+    let mut zero = n;
+    let mut j = 0;
+    while j < n {
+        let i = panels::turn_of(down, n, j);
+        let to = i * ld;
+        let row = i * 64;
+        let x = j * 64;
+        let k = i * lda + i;
+        let found = solve_unknown(diag, &mut s[to..], lines, j, u, &v[row..], a, k);
+        value_factors(left, &mut u[x..], lines, &s[to..]);
+        zero = lower(zero, found, i);
+        j += 1;
+    }
+    zero
+}
+
+// The n unknowns of the diagonal block that starts at a[0], some of them at a time: the terms of all before these are a product of packed blocks, and with
+// their own they are a small triangle.
+fn solve_groups(
     left: bool,
     down: bool,
     diag: Diagonal,
@@ -193,15 +229,29 @@ fn solve_unknowns(
     let mut zero = n;
     let mut j = 0;
     while j < n {
-        let i = panels::turn_of(down, n, j);
-        let to = i * ld;
-        let row = i * 64;
+        let h = block::small(n - j);
+        let y = least(down, n, j, h);
+        let to = y * ld;
+        let row = y * 64;
         let x = j * 64;
-        let k = i * lda + i;
-        let found = solve_unknown(diag, &mut s[to..], lines, j, u, &v[row..], a, k);
-        value_factors(left, &mut u[x..], lines, &s[to..]);
-        zero = lower(zero, found, i);
-        j += 1;
+        let w = row + j;
+        let k = y * lda + y;
+        block::block(&mut s[to..], ld, lines, h, j, u, &v[row..]);
+        let z = solve_unknowns(
+            left,
+            down,
+            diag,
+            &mut s[to..],
+            ld,
+            lines,
+            h,
+            &a[k..],
+            lda,
+            &mut u[x..],
+            &v[w..],
+        );
+        zero = lower(zero, z < h, y + z);
+        j += h;
     }
     zero
 }
@@ -229,7 +279,7 @@ fn solve_across(
     let mut v = [0.0f64; 4096];
     matrix_factors(left, down, t, a, lda, x0, n, &mut v);
     let from = x0 * lda + x0;
-    solve_unknowns(
+    solve_groups(
         left,
         down,
         diag,
@@ -301,20 +351,13 @@ fn solve(
     let mut zero = m;
     let mut q = 0;
     while q < m {
-        let n = panels::smaller(r, m - q);
+        let n = arrays::smaller(r, m - q);
         let z = solve_block(left, down, diag, b, ld, m, lines, t, a, lda, q, n);
         update_rest(left, down, b, ld, m, lines, t, a, lda, q, n, r);
         zero = lower(zero, true, z);
         q += n;
     }
     zero
-}
-
-// The first for side L, the second for side R.
-fn pick(left: bool, x: usize, y: usize) -> usize
-    ensures { λ r. ⌜ r ≡ (if left then x else y) ⌝ }
-{
-    if left { x } else { y }
 }
 
 // All lines: cleared if alpha is zero (A is not read), else solved with alpha times B as the start.
@@ -338,8 +381,8 @@ fn solve_lines(
     ensures { λ x. ⌜ (now (b .exit) ≡ update (grid left ld m lines (λ i l _. lineValue left down m diag alpha (entryOf (opForm t) (now (a .entry)) lda) (λ p. at (now (b .entry)) (cell left ld p l)) i)) (now (b .entry)))
         × Lowest (λ i. not (isZero alpha) && byZero diag (entryOf (opForm t) (now (a .entry)) lda i i)) m x ⌝ }
 {
-    let rows = pick(left, m, lines);
-    let cols = pick(left, lines, m);
+    let rows = arrays::pick(left, m, lines);
+    let cols = arrays::pick(left, lines, m);
     if alpha.is_zero() {
         pass::clear(b, ld, rows, cols);
         return m;

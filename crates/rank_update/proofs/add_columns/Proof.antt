@@ -1,14 +1,17 @@
 -- `rank_update::add_columns` adds a product in some columns of the triangle: the diagonal block and, if it has rows, the rectangle beside it.
 -- Assumes nothing.
 use Prim.Native.Nat.{ℕ, _≤_, _<_, _+_, _*_}
-use mathlib.Core.Path.{refl}
+use mathlib.Core.Bool.{false}
+use mathlib.Core.Path.{_≡_, refl}
 use native.Mathlib.Omega.{arith}
+use lib.Ieee.{Float}
 use lib.ListN.{length}
 use denote.Ref.{now}
 use borrow.Author.Needs.{needs}
 use Rattle.arrays.proofs.PartLaws.{tail-length, column-room}
-use Rattle.packing.specs.Factor.{entryOf}
-use Rattle.rank_update.proofs.Trapezoids.{rest-fits, diagonal-alone, diagonal-and-rest}
+use Rattle.packing.specs.Factor.{Matrix, entryOf}
+use Rattle.kernel.specs.Product.{fromRow, fromColumn, partly, product}
+use Rattle.kernel.proofs.TrapezoidLaws.{rest-fits, diagonal-alone, diagonal-and-rest}
 use Rattle.rank_update.proofs.add_columns.Statement.{statement}
 use Rattle.rank_update.proofs.add_columns.Tie as tie
 
@@ -31,6 +34,12 @@ parts c =
       room = omega arith;
       column = column-room _ (omega arith);
     }
+
+-- the product in the rows from i₀ on
+at-rows : (alpha : Float) (L R : Matrix) (k i₀ g i j : ℕ) (x : Float)
+    → product alpha (fromRow i₀ L) (fromColumn g R) false k i j x ≡ product alpha L (fromColumn g R) false k (i₀ + i) j x
+unfolding product partly
+at-rows alpha L R k i₀ g i j x = refl
 
 add-end : tie.Need-add-end
 add-end c = search needs
@@ -74,7 +83,7 @@ same-length c = search needs
 returns : tie.Need-returns
 returns c =
     let p = parts (c .before .before .before .before .before) in
-    diagonal-alone _ _ _ _ _ (omega (arith, p)) _ _ (entryOf (c .before .before .before .before .before .before .before .before .before .before .args .fa) (now (c .before .before .before .before .before .before .before .before .before .before .args .a)) (c .before .before .before .before .before .before .before .before .before .before .args .lda)) (entryOf (c .before .before .before .before .before .before .before .before .before .before .args .fb) (now (c .before .before .before .before .before .before .before .before .before .before .args .b)) (c .before .before .before .before .before .before .before .before .before .before .args .ldb)) _ _ _ _ (c .before .before .before .before .before .before .pick .ensures) (c .before .before .before .before .before .pick2 .ensures) (omega (arith, p)) (omega (arith, p)) (omega (arith, p)) (c .before .before .before .triangle .ensures) (c .if1 .taken)
+    diagonal-alone _ _ _ _ _ (omega (arith, p)) _ _ _ _ _ _ (c .before .before .before .before .before .before .pick .ensures) (c .before .before .before .before .before .pick2 .ensures) (omega (arith, p)) (omega (arith, p)) (omega (arith, p)) (c .before .before .before .triangle .ensures) (at-rows _ (entryOf (c .before .before .before .before .before .before .before .before .before .before .args .fa) (now (c .before .before .before .before .before .before .before .before .before .before .args .a)) (c .before .before .before .before .before .before .before .before .before .before .args .lda)) (entryOf (c .before .before .before .before .before .before .before .before .before .before .args .fb) (now (c .before .before .before .before .before .before .before .before .before .before .args .b)) (c .before .before .before .before .before .before .before .before .before .before .args .ldb)) _ _ _) (c .if1 .taken)
 
 mul-multiply : tie.Need-mul-multiply
 mul-multiply c = omega (arith, parts (c .before .before .before .before .before))
@@ -106,7 +115,8 @@ same-length-2 c = search needs
 returns-2 : tie.Need-returns-2
 returns-2 c =
     let p = parts (c .before .before .before .before .before .before .before .before .before) in
-    diagonal-and-rest _ _ _ _ _ (omega (arith, p)) _ _ (entryOf (c .before .before .before .before .before .before .before .before .before .before .before .before .before .before .args .fa) (now (c .before .before .before .before .before .before .before .before .before .before .before .before .before .before .args .a)) (c .before .before .before .before .before .before .before .before .before .before .before .before .before .before .args .lda)) (entryOf (c .before .before .before .before .before .before .before .before .before .before .before .before .before .before .args .fb) (now (c .before .before .before .before .before .before .before .before .before .before .before .before .before .before .args .b)) (c .before .before .before .before .before .before .before .before .before .before .before .before .before .before .args .ldb)) _ _ _ _ (c .before .before .before .before .before .before .before .before .before .before .pick .ensures) (c .before .before .before .before .before .before .before .before .before .pick2 .ensures) (omega (arith, p)) (omega (arith, p)) (omega (arith, p)) (c .before .before .before .before .before .before .before .triangle .ensures) _ _ refl (c .before .before .multiply .ensures)
+    diagonal-and-rest _ _ _ _ _ (omega (arith, p)) _ _ _ _ _ _ (c .before .before .before .before .before .before .before .before .before .before .pick .ensures) (c .before .before .before .before .before .before .before .before .before .pick2 .ensures) (omega (arith, p)) (omega (arith, p)) (omega (arith, p)) (c .before .before .before .before .before .before .before .triangle .ensures) (at-rows _ (entryOf (c .before .before .before .before .before .before .before .before .before .before .before .before .before .before .args .fa) (now (c .before .before .before .before .before .before .before .before .before .before .before .before .before .before .args .a)) (c .before .before .before .before .before .before .before .before .before .before .before .before .before .before .args .lda)) (entryOf (c .before .before .before .before .before .before .before .before .before .before .before .before .before .before .args .fb) (now (c .before .before .before .before .before .before .before .before .before .before .before .before .before .before .args .b)) (c .before .before .before .before .before .before .before .before .before .before .before .before .before .before .args .ldb)) _ _ _)
+    _ _ _ refl (c .before .before .multiply .ensures) (at-rows _ (entryOf (c .before .before .before .before .before .before .before .before .before .before .before .before .before .before .args .fa) (now (c .before .before .before .before .before .before .before .before .before .before .before .before .before .before .args .a)) (c .before .before .before .before .before .before .before .before .before .before .before .before .before .before .args .lda)) (entryOf (c .before .before .before .before .before .before .before .before .before .before .before .before .before .before .args .fb) (now (c .before .before .before .before .before .before .before .before .before .before .before .before .before .before .args .b)) (c .before .before .before .before .before .before .before .before .before .before .before .before .before .before .args .ldb)) _ _ _)
 
 pub add-columns-spec : {M : Type 1} → statement M
 add-columns-spec =

@@ -4,16 +4,16 @@ use Prim.Native.Nat.{ℕ, _≤_, _<_, _-_, _+_, _*_}
 use mathlib.Core.Bool.{false}
 use mathlib.Core.Path.{_≡_, refl, ap, _∙_}
 use native.Mathlib.Omega.{arith}
+use lib.Ieee.{Float}
 use lib.ListN.{length}
 use denote.Ref.{now}
 use borrow.Author.Needs.{needs}
 use Rattle.arrays.specs.Update.{update, entries, only}
 use Rattle.arrays.proofs.PartLaws.{tail-length, columns-room, column-room}
 use Rattle.arrays.proofs.UpdateLaws.{length-update}
-use Rattle.packing.specs.Factor.{entryOf}
-use Rattle.kernel.specs.Product.{fromColumn, product}
-use Rattle.rank_update.specs.Trapezoid.{trapezoid}
-use Rattle.rank_update.proofs.Trapezoids.{none-yet, columns-more}
+use Rattle.packing.specs.Factor.{Matrix, entryOf}
+use Rattle.kernel.specs.Product.{fromColumn, partly, product, trapezoid}
+use Rattle.kernel.proofs.TrapezoidLaws.{none-yet, columns-more}
 use Rattle.rank_update.proofs.add_product.Statement.{statement}
 use Rattle.rank_update.proofs.add_product.Tie as tie
 
@@ -48,6 +48,12 @@ turn c =
       room = omega (arith, columns-room (c .before .before .before .before .before .before .args .ld) (c .before .before .loop .j) (c .smaller .result) within);
       column = column-room _ some;
     }
+
+-- the product in the columns from the j-th on
+at-columns : (alpha : Float) (L R : Matrix) (k from j i c : ℕ) (x : Float)
+    → product alpha L (fromColumn (from + j) R) false k i c x ≡ product alpha L (fromColumn from R) false k i (j + c) x
+unfolding product partly
+at-columns alpha L R k from j i c x = let e : from + j + c ≡ from + (j + c) = omega arith in ap (λ (q : ℕ). product alpha L R false k i q x) e
 
 loop-holds : tie.Need-loop-holds Inv-loop μ-loop
 loop-holds c = (omega arith, refl, none-yet _ _ _ _ _ _)
@@ -88,7 +94,7 @@ loop-less c = omega (arith, turn (c .before .before .before .before))
 loop-again : tie.Need-loop-again Inv-loop μ-loop
 loop-again c =
     let t = turn (c .before .before .before .before) in
-    let e = columns-more _ (entryOf (c .before .before .before .before .before .before .before .before .before .before .args .fa) (now (c .before .before .before .before .before .before .before .before .before .before .args .a)) (c .before .before .before .before .before .before .before .before .before .before .args .lda)) (entryOf (c .before .before .before .before .before .before .before .before .before .before .args .fb) (now (c .before .before .before .before .before .before .before .before .before .before .args .b)) (c .before .before .before .before .before .before .before .before .before .before .args .ldb)) _ _ _ _ _ _ _ _ _ _ _ (omega (arith, t)) (omega (arith, t)) refl (omega (arith, t)) (c .before .before .before .before .before .before .loop .inv .2) (c .before .before .add-columns .ensures) in
+    let e = columns-more _ _ _ _ _ _ _ _ _ _ _ _ _ refl (omega (arith, t)) (omega (arith, t)) refl (omega (arith, t)) (c .before .before .before .before .before .before .loop .inv .2) (c .before .before .add-columns .ensures) (at-columns _ (entryOf (c .before .before .before .before .before .before .before .before .before .before .args .fa) (now (c .before .before .before .before .before .before .before .before .before .before .args .a)) (c .before .before .before .before .before .before .before .before .before .before .args .lda)) (entryOf (c .before .before .before .before .before .before .before .before .before .before .args .fb) (now (c .before .before .before .before .before .before .before .before .before .before .args .b)) (c .before .before .before .before .before .before .before .before .before .before .args .ldb)) _ _ _) in
     (omega (arith, t), ap length e ∙ length-update _ _, e)
 
 same-length : tie.Need-same-length Inv-loop μ-loop

@@ -9,8 +9,8 @@ use Rattle.arrays.specs.Update.{update, entries, only}
 use Rattle.arrays.proofs.PartLaws.{tail-length, column-room}
 use Rattle.arrays.proofs.UpdateLaws.{length-update}
 use Rattle.definitions.specs.Number.{start}
-use Rattle.rank_update.specs.Trapezoid.{trapezoid}
-use Rattle.rank_update.proofs.Trapezoids.{none-yet, column-fits, column-more}
+use Rattle.kernel.specs.Product.{trapezoid}
+use Rattle.kernel.proofs.TrapezoidLaws.{none-yet, rows-room, column-more}
 use Rattle.rank_update.proofs.start_triangle.Statement.{statement}
 use Rattle.rank_update.proofs.start_triangle.Tie as tie
 
@@ -30,7 +30,7 @@ record Turn (j top rows n ld lc : ℕ) : Type 0 where
 turn : (c : tie.After-pick2 Inv-loop μ-loop) → Turn (c .before .before .before .loop .j) (c .before .pick .result) (c .pick2 .result) (c .before .before .before .before .before .args .n) (c .before .before .before .before .before .args .ld) (length (c .before .before .before .loop .c))
 turn c =
     record {
-      rows-fit = column-fits (c .before .before .before .before .before .args .from) _ (c .before .before .before .loop .j) _ _ (omega arith) (c .before .before .before .before .before .args .lower) (c .before .pick .ensures) (c .pick2 .ensures);
+      rows-fit = rows-room (c .before .before .before .before .before .args .lower) _ _ _ _ (c .before .pick .ensures, c .pick2 .ensures) (omega arith);
       leading = omega arith;
       column = omega (arith, column-room (c .before .before .before .before .before .args .ld) (c .before .before .loop-test .taken));
     }
@@ -83,7 +83,7 @@ loop-less c = search needs
 loop-again : tie.Need-loop-again Inv-loop μ-loop
 loop-again c =
     let t = turn (c .before .before .before .before) in
-    let e = column-more _ _ _ _ _ (omega arith) _ _ _ _ _ _ _ (c .before .before .before .before .before .pick .ensures) (c .before .before .before .before .pick2 .ensures) (omega arith) (omega arith) refl (omega (arith, t)) (c .before .before .before .before .before .before .before .loop .inv .2) (c .before .before .column .ensures) in
+    let e = column-more _ _ _ _ _ _ refl (omega arith) _ _ _ _ _ _ _ _ (c .before .before .before .before .before .pick .ensures, c .before .before .before .before .pick2 .ensures) (omega arith) (omega arith) refl (omega (arith, t)) (c .before .before .before .before .before .before .before .loop .inv .2) (c .before .before .column .ensures) (λ i x. refl) in
     (omega arith, ap length e ∙ length-update _ _, e)
 
 same-length : tie.Need-same-length Inv-loop μ-loop

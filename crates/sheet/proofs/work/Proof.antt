@@ -9,8 +9,9 @@ use mir.ValLaws.{toZ-ofZ}
 use Rattle.definitions.specs.Check.{negative}
 use Rattle.definitions.specs.Sheet.{output}
 use Rattle.records.specs.Judgement.{arraysOf, second, partAt}
-use Rattle.sheet.specs.Lent.{least, stripAt, zeroAt}
-use Rattle.sheet.proofs.Strips.{least-is, lends-same}
+use Rattle.arrays.specs.Choice.{least}
+use Rattle.sheet.specs.Lent.{stripAt, zeroAt}
+use Rattle.sheet.proofs.Strips.{lends-same}
 use native.Mathlib.Omega.{arith}
 use borrow.Author.Needs.{needs}
 use Rattle.sheet.proofs.work.Statement.{statement}
@@ -43,20 +44,20 @@ extent-requires c κs = search needs
 mul-from : tie.Need-mul-from
 mul-from c = search needs
 
-sub-least : tie.Need-sub-least
-sub-least c = search needs
+sub-smaller : tie.Need-sub-smaller
+sub-smaller c = search needs
 
-least-requires : tie.Need-least-requires
-least-requires c κs = search needs
+smaller-requires : tie.Need-smaller-requires
+smaller-requires c κs = search needs
 
 put-requires : tie.Need-put-requires
 put-requires c κs =
-    let h = least-is (c .before .before .before .before .before .before .before .before .before .before .before .before .before .args .w) (c .before .before .before .before .extent .result - c .before .before .before .before .before .before .before .before .before .before .before .before .before .args .s * c .before .before .before .before .before .before .before .before .before .before .before .before .before .args .w) in (
+    let h = c .before .before .before .smaller .ensures in (
       lends-same (c .before .before .before .before .before .before .before .before .before .before .before .before .before .args .call) _ _ _ _ _ _ _ (output-at (c .before .before .before .before .before .before .before .before)) (c .before .before .before .before .before .before .before .part-at2 .ensures) (second-at (c .before .before .before .before .before)) (c .before .before .before .before .before .before .before .before .before .before .before .before .before .pre .0),
       (
-        omega (arith, c .before .before .before .least .ensures, h .2 (omega (arith, c .before .before .before .before .before .before .before .before .before .before .before .before .before .pre .1)) (omega (arith, c .before .before .before .before .before .before .before .before .before .before .before .before .before .pre .1, c .before .before .before .before .extent .ensures .0))),
-        omega (arith, c .before .before .before .least .ensures, h .0, c .before .before .before .before .before .before .before .before .before .before .before .before .before .pre .1),
-        omega (arith, c .before .before .before .least .ensures, h .1, c .before .before .before .before .before .before .before .before .before .before .before .before .before .pre .1, c .before .before .before .before .extent .ensures .0),
+        omega (arith, h .2 (omega (arith, c .before .before .before .before .before .before .before .before .before .before .before .before .before .pre .1)) (omega (arith, c .before .before .before .before .before .before .before .before .before .before .before .before .before .pre .1, c .before .before .before .before .extent .ensures .0))),
+        omega (arith, h .0, c .before .before .before .before .before .before .before .before .before .before .before .before .before .pre .1),
+        omega (arith, h .1, c .before .before .before .before .before .before .before .before .before .before .before .before .before .pre .1, c .before .before .before .before .extent .ensures .0),
         omega (arith, c .before .before .before .before .before .before .before .before .before .before .before .before .before .pre .1),
         omega (arith, c .before .before .before .before .before .before .before .before .before .before .before .before .before .pre .1),
       ),
@@ -76,7 +77,7 @@ same-length-3 c = search needs
 
 returns : tie.Need-returns
 returns c =
-    let d = c .before .before .before .before .before .before .before .before .before .before .before .least .ensures ∙ ap (λ d. least (c .before .before .before .before .before .before .before .before .before .before .before .before .before .before .before .before .before .before .before .before .before .args .w) (d - c .before .before .before .before .before .before .before .before .before .before .before .before .before .before .before .before .before .before .before .before .before .args .s * c .before .before .before .before .before .before .before .before .before .before .before .before .before .before .before .before .before .before .before .before .before .args .w)) (c .before .before .before .before .before .before .before .before .before .before .before .before .extent .ensures .0) in (
+    let d = c .before .before .before .before .before .before .before .before .before .before .before .smaller .ensures .3 ∙ ap (λ d. least (c .before .before .before .before .before .before .before .before .before .before .before .before .before .before .before .before .before .before .before .before .before .args .w) (d - c .before .before .before .before .before .before .before .before .before .before .before .before .before .before .before .before .before .before .before .before .before .args .s * c .before .before .before .before .before .before .before .before .before .before .before .before .before .before .before .before .before .before .before .before .before .args .w)) (c .before .before .before .before .before .before .before .before .before .before .before .before .extent .ensures .0) in (
       c .before .before .before .before .before .before .before .put .ensures .0
           ∙ (λ i. stripAt (c .before .before .before .before .before .before .before .before .before .before .before .before .before .before .before .before .before .before .before .before .before .args .call) (output-at (c .before .before .before .before .before .before .before .before .before .before .before .before .before .before .before .before) i) (c .before .before .before .before .before .before .before .before .before .before .before .before .before .before .before .part-at2 .ensures i) (second-at (c .before .before .before .before .before .before .before .before .before .before .before .before .before) i) (c .before .before .before .before .before .before .before .before .before .before .before .before .before .before .before .before .before .before .before .before .before .args .s * c .before .before .before .before .before .before .before .before .before .before .before .before .before .before .before .before .before .before .before .before .before .args .w) (c .before .before .before .before .before .before .before .before .before .before .before .before .before .before .before .before .before .before .before .before .before .args .s * c .before .before .before .before .before .before .before .before .before .before .before .before .before .before .before .before .before .before .before .before .before .args .w + d i)
           (arraysOf (now (c .before .before .before .before .before .before .before .before .before .before .before .before .before .before .before .before .before .before .before .before .before .args .x)) (now (c .before .before .before .before .before .before .before .before .before .before .before .before .before .before .before .before .before .before .before .before .before .args .y)) (now (c .before .before .before .before .before .before .before .before .before .before .before .before .before .before .before .before .before .before .before .before .before .args .z)))),
@@ -94,8 +95,8 @@ work-spec =
     part-at-requires-3
     extent-requires
     mul-from
-    sub-least
-    least-requires
+    sub-smaller
+    smaller-requires
     put-requires
     negative-requires
     same-length

@@ -38,9 +38,7 @@ turn : (c : tie.After-smaller Inv-loop μ-loop) → Turn (c .before .before .loo
 turn c = record { some = c .smaller .ensures .2 (omega arith) (omega arith); few = omega arith; fit = omega arith }
 
 loop-holds : tie.Need-loop-holds Inv-loop μ-loop
-loop-holds c = let g = c .before .before .args in
-    let p = c .before .before .pre .0 in
-    (omega arith, refl, none-done (g .left) (g .after) (g .alpha) (g .diag) (entryOf (opForm (g .t)) (now (g .a)) (g .lda)) (g .ld) (g .m) (g .lines) (some-ld (g .left) (g .ld) (g .m) (g .lines) (length (now (g .b))) (omega (arith, p)) (omega (arith, p)) (c .before .before .pre .1 .0)) (now (g .b)))
+loop-holds c = (omega arith, refl, none-done _ _ _ _ _ _ _)
 
 sub-smaller : tie.Need-sub-smaller Inv-loop μ-loop
 sub-smaller c = omega arith
@@ -66,8 +64,7 @@ loop-again c = let g = c .before .before .before .before .before .before .before
     let p = c .before .before .before .before .before .before .before .before .before .before .pre .0 in
     let pos = some-ld (g .left) (g .ld) (g .m) (g .lines) (length (now (g .b))) (omega (arith, p)) (omega (arith, p)) (c .before .before .before .before .before .before .before .before .before .before .pre .1 .0) in
     let e =
-    block-done (g .left) (g .after) (g .alpha) (g .diag) (entryOf (opForm (g .t)) (now (g .a)) (g .lda)) (g .ld) (g .m) (g .lines) pos (now (g .b)) (c .before .before .before .before .before .before .before .loop .k) (c .before .before .before .before .before .smaller .result) (c .before .before .before .before .next-block .result) _ _
-    (c .before .before .before .before .before .before .before .before .before .before .pre .1 .0) (c .before .before .before .before .next-block .ensures .0) (c .before .before .before .before .before .before .before .loop .inv .2) (c .before .before .block .ensures) in
+    block-done _ (g .after) _ _ _ _ _ _ _ _ (now (g .b)) _ _ pos (c .before .before .before .before .before .before .before .before .before .before .pre .1 .0) (c .before .before .before .before .next-block .ensures .0) (c .before .before .before .before .before .before .before .loop .inv .2) (c .before .before .block .ensures) in
     (omega (arith, turn (c .before .before .before .before .before)), ap length e ∙ length-update _ _, e)
 
 same-length : tie.Need-same-length Inv-loop μ-loop
@@ -77,8 +74,7 @@ returns : tie.Need-returns Inv-loop μ-loop
 returns c = let g = c .before .before .before .before .args in
     let p = c .before .before .before .before .pre .0 in
     let e : c .before .loop .k ≡ g .m = omega arith in
-    all-done (g .left) (g .after) (g .alpha) (g .diag) (entryOf (opForm (g .t)) (now (g .a)) (g .lda)) (g .ld) (g .m) (g .lines)
-    (some-ld (g .left) (g .ld) (g .m) (g .lines) (length (now (g .b))) (omega (arith, p)) (omega (arith, p)) (c .before .before .before .before .pre .1 .0)) (now (g .b)) _ (rw e at (c .before .loop .inv .2))
+    all-done _ _ _ _ _ _ _ _ (some-ld (g .left) (g .ld) (g .m) (g .lines) (length (now (g .b))) (omega (arith, p)) (omega (arith, p)) (c .before .before .before .before .pre .1 .0)) (rw e at (c .before .loop .inv .2))
 
 pub sum-lines-spec : {M : Type 1} → statement M
 sum-lines-spec =

@@ -34,26 +34,26 @@ mul-from c = omega (arith, read c)
 add-from : tie.Need-add-from
 add-from c = omega (arith, read c)
 
-mul-solve-unknowns : tie.Need-mul-solve-unknowns
-mul-solve-unknowns c = omega (arith, read (c .before))
+mul-solve-groups : tie.Need-mul-solve-groups
+mul-solve-groups c = omega (arith, read (c .before))
 
-sub-solve-unknowns : tie.Need-sub-solve-unknowns
-sub-solve-unknowns c = omega (arith, read (c .before))
+sub-solve-groups : tie.Need-sub-solve-groups
+sub-solve-groups c = omega (arith, read (c .before))
 
-part-solve-unknowns-start : tie.Need-part-solve-unknowns-start
-part-solve-unknowns-start c = omega (arith, read (c .before))
+part-solve-groups-start : tie.Need-part-solve-groups-start
+part-solve-groups-start c = omega (arith, read (c .before))
 
-part-solve-unknowns-end : tie.Need-part-solve-unknowns-end
-part-solve-unknowns-end c = search needs
+part-solve-groups-end : tie.Need-part-solve-groups-end
+part-solve-groups-end c = search needs
 
-slice-aggregate-solve-unknowns : tie.Need-slice-aggregate-solve-unknowns
-slice-aggregate-solve-unknowns c = search needs
+slice-aggregate-solve-groups : tie.Need-slice-aggregate-solve-groups
+slice-aggregate-solve-groups c = search needs
 
-slice-aggregate-solve-unknowns-2 : tie.Need-slice-aggregate-solve-unknowns-2
-slice-aggregate-solve-unknowns-2 c = search needs
+slice-aggregate-solve-groups-2 : tie.Need-slice-aggregate-solve-groups-2
+slice-aggregate-solve-groups-2 c = search needs
 
-solve-unknowns-requires : tie.Need-solve-unknowns-requires
-solve-unknowns-requires c κs = ((omega arith, omega arith, omega arith, omega arith, omega arith, λ i h. diagonal-inside (c .before .before .before .before .before .before .before .before .before .args .t) (now (c .before .before .before .before .before .before .before .before .before .args .a)) (c .before .before .before .before .before .before .before .before .before .args .lda) (c .before .before .before .before .before .before .before .before .before .args .x0) i (c .before .before .before .before .before .before .before .before .before .pre .0 .5 i i h h)), c .before .before .before .before .before .before .before .before .before .pre .1)
+solve-groups-requires : tie.Need-solve-groups-requires
+solve-groups-requires c κs = ((omega arith, omega arith, omega arith, omega arith, omega arith, λ i h. diagonal-inside (c .before .before .before .before .before .before .before .before .before .args .t) (now (c .before .before .before .before .before .before .before .before .before .args .a)) (c .before .before .before .before .before .before .before .before .before .args .lda) (c .before .before .before .before .before .before .before .before .before .args .x0) i (c .before .before .before .before .before .before .before .before .before .pre .0 .5 i i h h)), c .before .before .before .before .before .before .before .before .before .pre .1)
 
 same-length : tie.Need-same-length
 same-length c = search needs
@@ -61,11 +61,11 @@ same-length c = search needs
 returns : tie.Need-returns
 returns c =
     let g = c .before .before .before .before .before .before .before .before .before .before .before .before .before .args in (
-      c .before .before .before .solve-unknowns .ensures .0
+      c .before .before .before .solve-groups .ensures .0
           ∙ ordered-same false (g .down) (g .ld) (g .n) (g .lines) _ _ (now (g .s)) (omega (arith, c .before .before .before .before .before .before .before .before .before .before .before .before .before .pre))
           (λ q l hq hl x.
           packed-is (g .left) (g .down) (g .n) (g .x0) (g .diag) (entryOf (opForm (g .t)) (now (g .a)) (g .lda)) _ _ _ (λ i h. diagonal-part (g .t) (now (g .a)) (g .lda) (g .x0) i) (c .before .before .before .before .before .before .before .before .before .matrix-factors .ensures) q hq),
-      lowest-same _ _ (g .n) _ (λ i h. ap (byZero (g .diag)) (diagonal-part (g .t) (now (g .a)) (g .lda) (g .x0) i)) (c .before .before .before .solve-unknowns .ensures .1),
+      lowest-same _ _ (g .n) _ (λ i h. ap (byZero (g .diag)) (diagonal-part (g .t) (now (g .a)) (g .lda) (g .x0) i)) (c .before .before .before .solve-groups .ensures .1),
     )
 
 pub solve-across-spec : {M : Type 1} → statement M
@@ -76,12 +76,12 @@ solve-across-spec =
     matrix-factors-requires
     mul-from
     add-from
-    mul-solve-unknowns
-    sub-solve-unknowns
-    part-solve-unknowns-start
-    part-solve-unknowns-end
-    slice-aggregate-solve-unknowns
-    slice-aggregate-solve-unknowns-2
-    solve-unknowns-requires
+    mul-solve-groups
+    sub-solve-groups
+    part-solve-groups-start
+    part-solve-groups-end
+    slice-aggregate-solve-groups
+    slice-aggregate-solve-groups-2
+    solve-groups-requires
     same-length
     returns)

@@ -1,50 +1,47 @@
--- `direct::left_mirrored` meets its contract: the left factor is written out.
+-- `direct::left_mirrored` meets its contract: either buffer has the room.
 -- Assumes nothing.
-use denote.Ref.{now}
-use lib.ListN.{length}
 use native.Mathlib.Omega.{arith}
-use Prim.Native.Nat.{ℕ, _+_}
-use Rattle.kernel.proofs.DirectLaws.{same-product, written-out, mirrored-room, buffer-room}
-use Rattle.packing.specs.Factor.{entryOf}
-use Rattle.arrays.proofs.UpdateLaws.{length-update}
-use native.Mathlib.Nat.{zero-add}
-use mathlib.Core.Path.{refl, ap, _∙_}
 use borrow.Author.Needs.{needs}
 use Rattle.kernel.proofs.direct.left_mirrored.Statement.{statement}
 use Rattle.kernel.proofs.direct.left_mirrored.Tie as tie
 
-is-lower-requires : tie.Need-is-lower-requires
-is-lower-requires c κs = search needs
+within-requires : tie.Need-within-requires
+within-requires c κs = search needs
 
-slice-aggregate-block : tie.Need-slice-aggregate-block
-slice-aggregate-block c = search needs
+slice-aggregate-left-written : tie.Need-slice-aggregate-left-written
+slice-aggregate-left-written c = search needs
 
-block-requires : tie.Need-block-requires
-block-requires c κs = ((omega arith, omega arith, omega arith, omega arith, omega arith), λ y x hy hx. mirrored-room (c .before .before .before .before .before .args .fa) (c .before .before .before .before .before .args .lda) (c .before .before .before .before .before .args .i0 + y) _ (c .before .before .before .before .before .pre .1 .0 .2) (c .before .is-lower .ensures) (rw (zero-add x) (c .before .before .before .before .before .pre .1 .1 .0 y x hy hx)))
-
-slice-aggregate-strides : tie.Need-slice-aggregate-strides
-slice-aggregate-strides c = search needs
-
-strides-requires : tie.Need-strides-requires
-strides-requires c κs = let e = ap length (c .before .before .before .block .ensures) ∙ length-update _ _ in
-    (omega arith, ((omega arith, c .before .before .before .before .before .before .before .before .before .pre .1 .0 .1, refl, c .before .before .before .before .before .before .before .before .before .pre .1 .0 .3), ((λ i l hi hl. rw (zero-add i) (buffer-room i l (omega arith) (omega arith) (omega (arith, e)) hi hl)), c .before .before .before .before .before .before .before .before .before .pre .1 .1 .1)))
+left-written-requires : tie.Need-left-written-requires
+left-written-requires c κs = (omega (arith, c .before .before .before .within .ensures (c .before .before .if1 .taken)), c .before .before .before .before .before .before .before .pre .1)
 
 same-length : tie.Need-same-length
 same-length c = search needs
 
 returns : tie.Need-returns
-returns c = same-product _ _ _ _ _ _ _ _ _ _ _ _ (omega arith)
-    (λ i l hi hl. rw (zero-add i) (written-out (c .before .before .before .before .before .before .before .before .before .before .before .before .args .fa) _ (c .before .before .before .before .before .before .before .before .before .before .before .before .args .lda) (c .before .before .before .before .before .before .before .before .before .before .before .before .args .rows) (c .before .before .before .before .before .before .before .before .before .before .before .before .args .k) (c .before .before .before .before .before .before .before .before .before .before .before .before .args .i0) 0 _ _ i l (c .before .before .before .before .before .before .before .before .before .before .before .before .pre .1 .0 .2) (c .before .before .before .before .before .before .before .before .is-lower .ensures) (omega arith) (omega arith) (c .before .before .before .before .before .before .block .ensures) hi hl) ∙ ap (λ (n : ℕ). entryOf (c .before .before .before .before .before .before .before .before .before .before .before .before .args .fa) (now (c .before .before .before .before .before .before .before .before .before .before .before .before .args .a)) (c .before .before .before .before .before .before .before .before .before .before .before .before .args .lda) (c .before .before .before .before .before .before .before .before .before .before .before .before .args .i0 + i) n) (zero-add l))
-    (λ l j hl hj. refl) (c .before .before .strides .ensures)
+returns c = search needs
+
+slice-aggregate-left-written-2 : tie.Need-slice-aggregate-left-written-2
+slice-aggregate-left-written-2 c = search needs
+
+left-written-requires-2 : tie.Need-left-written-requires-2
+left-written-requires-2 c κs = (omega arith, c .before .before .before .before .before .before .before .pre .1)
+
+same-length-2 : tie.Need-same-length-2
+same-length-2 c = search needs
+
+returns-2 : tie.Need-returns-2
+returns-2 c = search needs
 
 pub left-mirrored-spec : {M : Type 1} → statement M
 left-mirrored-spec =
     tie.close
     (tie.spec
-    is-lower-requires
-    slice-aggregate-block
-    block-requires
-    slice-aggregate-strides
-    strides-requires
+    within-requires
+    slice-aggregate-left-written
+    left-written-requires
     same-length
-    returns)
+    returns
+    slice-aggregate-left-written-2
+    left-written-requires-2
+    same-length-2
+    returns-2)

@@ -1,50 +1,47 @@
--- `direct::right_mirrored` meets its contract: the right factor is written out.
+-- `direct::right_mirrored` meets its contract: either buffer has the room.
 -- Assumes nothing.
-use Rattle.kernel.proofs.DirectLaws.{same-product, written-out, mirrored-room, buffer-room}
-use Rattle.packing.specs.Factor.{entryOf}
-use Rattle.arrays.proofs.UpdateLaws.{length-update}
-use denote.Ref.{now}
-use lib.ListN.{length}
 use native.Mathlib.Omega.{arith}
-use native.Mathlib.Nat.{zero-add}
-use mathlib.Core.Path.{refl, ap, _∙_}
-use Prim.Native.Nat.{ℕ, _+_}
 use borrow.Author.Needs.{needs}
 use Rattle.kernel.proofs.direct.right_mirrored.Statement.{statement}
 use Rattle.kernel.proofs.direct.right_mirrored.Tie as tie
 
-is-lower-requires : tie.Need-is-lower-requires
-is-lower-requires c κs = search needs
+within-requires : tie.Need-within-requires
+within-requires c κs = search needs
 
-slice-aggregate-block : tie.Need-slice-aggregate-block
-slice-aggregate-block c = search needs
+slice-aggregate-right-written : tie.Need-slice-aggregate-right-written
+slice-aggregate-right-written c = search needs
 
-block-requires : tie.Need-block-requires
-block-requires c κs = ((omega arith, omega arith, omega arith, omega arith, omega arith), λ y x hy hx. mirrored-room (c .before .before .before .before .before .args .fb) (c .before .before .before .before .before .args .ldb) _ (c .before .before .before .before .before .args .j0 + x) (c .before .before .before .before .before .pre .1 .0 .3) (c .before .is-lower .ensures) (rw (zero-add y) (c .before .before .before .before .before .pre .1 .1 .1 y x hy hx)))
-
-slice-aggregate-strides : tie.Need-slice-aggregate-strides
-slice-aggregate-strides c = search needs
-
-strides-requires : tie.Need-strides-requires
-strides-requires c κs = let e = ap length (c .before .before .before .block .ensures) ∙ length-update _ _ in
-    (omega arith, ((c .before .before .before .before .before .before .before .before .before .pre .1 .0 .0, omega arith, c .before .before .before .before .before .before .before .before .before .pre .1 .0 .2, refl), (c .before .before .before .before .before .before .before .before .before .pre .1 .1 .0, (λ l j hl hj. rw (zero-add j) (buffer-room l j (omega arith) (omega arith) (omega (arith, e)) hl hj)))))
+right-written-requires : tie.Need-right-written-requires
+right-written-requires c κs = (omega (arith, c .before .before .before .within .ensures (c .before .before .if1 .taken)), c .before .before .before .before .before .before .before .pre .1)
 
 same-length : tie.Need-same-length
 same-length c = search needs
 
 returns : tie.Need-returns
-returns c = same-product _ _ _ _ _ _ _ _ _ _ _ _ (omega arith) (λ i l hi hl. refl)
-    (λ l j hl hj. rw (zero-add j) (written-out (c .before .before .before .before .before .before .before .before .before .before .before .before .args .fb) _ (c .before .before .before .before .before .before .before .before .before .before .before .before .args .ldb) (c .before .before .before .before .before .before .before .before .before .before .before .before .args .k) (c .before .before .before .before .before .before .before .before .before .before .before .before .args .cols) 0 (c .before .before .before .before .before .before .before .before .before .before .before .before .args .j0) _ _ l j (c .before .before .before .before .before .before .before .before .before .before .before .before .pre .1 .0 .3) (c .before .before .before .before .before .before .before .before .is-lower .ensures) (omega arith) (omega arith) (c .before .before .before .before .before .before .block .ensures) hl hj) ∙ ap (λ (n : ℕ). entryOf (c .before .before .before .before .before .before .before .before .before .before .before .before .args .fb) (now (c .before .before .before .before .before .before .before .before .before .before .before .before .args .b)) (c .before .before .before .before .before .before .before .before .before .before .before .before .args .ldb) n (c .before .before .before .before .before .before .before .before .before .before .before .before .args .j0 + j)) (zero-add l))
-    (c .before .before .strides .ensures)
+returns c = search needs
+
+slice-aggregate-right-written-2 : tie.Need-slice-aggregate-right-written-2
+slice-aggregate-right-written-2 c = search needs
+
+right-written-requires-2 : tie.Need-right-written-requires-2
+right-written-requires-2 c κs = (omega arith, c .before .before .before .before .before .before .before .pre .1)
+
+same-length-2 : tie.Need-same-length-2
+same-length-2 c = search needs
+
+returns-2 : tie.Need-returns-2
+returns-2 c = search needs
 
 pub right-mirrored-spec : {M : Type 1} → statement M
 right-mirrored-spec =
     tie.close
     (tie.spec
-    is-lower-requires
-    slice-aggregate-block
-    block-requires
-    slice-aggregate-strides
-    strides-requires
+    within-requires
+    slice-aggregate-right-written
+    right-written-requires
     same-length
-    returns)
+    returns
+    slice-aggregate-right-written-2
+    right-written-requires-2
+    same-length-2
+    returns-2)

@@ -1,6 +1,8 @@
 -- `direct::strides` meets its contract: the strides are those of the forms.
 -- Assumes nothing.
+use Rattle.kernel.proofs.TrapezoidLaws.{is-box}
 use Rattle.kernel.proofs.DirectLaws.{left-room, right-room, left-entry, right-entry, same-product}
+use Rattle.arrays.specs.Update.{region}
 use Rattle.arrays.proofs.PartLaws.{tail-length}
 use native.Mathlib.Omega.{arith}
 use borrow.Author.Needs.{needs}
@@ -62,7 +64,8 @@ same-length : tie.Need-same-length
 same-length c = search needs
 
 returns : tie.Need-returns
-returns c = same-product _ _ _ _ _ _ _ _ _ _ _ _ (omega arith)
+unfolding region
+returns c = same-product _ _ _ _ _ _ _ _ _ _ _ _ _ (omega arith) (is-box _ _)
     (λ i l hi hl. left-entry (c .before .before .before .before .before .before .before .before .before .before .before .before .before .args .fa) _ (c .before .before .before .before .before .before .before .before .before .before .before .before .before .args .lda) (c .before .before .before .before .before .before .before .before .before .before .before .before .before .args .i0) i l (c .before .before .before .before .before .before .before .before .before .before .before .before .before .pre .1 .0 .2) (c .before .before .before .before .before .before .before .before .before .row-stride .ensures) (c .before .before .before .before .before .before .before .before .column-stride .ensures))
     (λ l j hl hj. right-entry (c .before .before .before .before .before .before .before .before .before .before .before .before .before .args .fb) _ (c .before .before .before .before .before .before .before .before .before .before .before .before .before .args .ldb) (c .before .before .before .before .before .before .before .before .before .before .before .before .before .args .j0) l j (c .before .before .before .before .before .before .before .before .before .before .before .before .before .pre .1 .0 .3) (c .before .before .before .before .before .before .before .row-stride2 .ensures) (c .before .before .before .before .before .before .column-stride2 .ensures))
     (c .before .before .columns .ensures)

@@ -1,18 +1,15 @@
--- `triangle::triangle` meets its contract: the buffers are long enough.
+-- `triangle::triangle` meets its contract: a tiny product is made directly, any other by blocks.
 -- Assumes nothing.
 use native.Mathlib.Omega.{arith}
 use borrow.Author.Needs.{needs}
 use Rattle.kernel.proofs.triangle.triangle.Statement.{statement}
 use Rattle.kernel.proofs.triangle.triangle.Tie as tie
 
-slice-aggregate-triangle-panels : tie.Need-slice-aggregate-triangle-panels
-slice-aggregate-triangle-panels c = search needs
+is-tiny-triangle-requires : tie.Need-is-tiny-triangle-requires
+is-tiny-triangle-requires c κs = search needs
 
-slice-aggregate-triangle-panels-2 : tie.Need-slice-aggregate-triangle-panels-2
-slice-aggregate-triangle-panels-2 c = search needs
-
-triangle-panels-requires : tie.Need-triangle-panels-requires
-triangle-panels-requires c κs = (omega arith, c .before .before .before .before .before .before .pre .1)
+triangle-requires : tie.Need-triangle-requires
+triangle-requires c κs = (omega arith, ((c .before .before .before .before .before .before .pre .1 .0 .0, c .before .before .before .before .before .before .pre .1 .0 .1, c .before .before .is-tiny-triangle .ensures (c .before .if1 .taken) .0, c .before .before .is-tiny-triangle .ensures (c .before .if1 .taken) .1), c .before .before .before .before .before .before .pre .1 .1))
 
 same-length : tie.Need-same-length
 same-length c = search needs
@@ -20,12 +17,35 @@ same-length c = search needs
 returns : tie.Need-returns
 returns c = search needs
 
+blocked-requires : tie.Need-blocked-requires
+blocked-requires c κs = (omega arith, c .before .before .before .before .before .before .before .pre .1)
+
+same-length-2 : tie.Need-same-length-2
+same-length-2 c = search needs
+
+returns-2 : tie.Need-returns-2
+returns-2 c = search needs
+
+blocked-requires-2 : tie.Need-blocked-requires-2
+blocked-requires-2 c κs = search needs
+
+same-length-3 : tie.Need-same-length-3
+same-length-3 c = search needs
+
+returns-3 : tie.Need-returns-3
+returns-3 c = search needs
+
 pub triangle-spec : {M : Type 1} → statement M
 triangle-spec =
     tie.close
     (tie.spec
-    slice-aggregate-triangle-panels
-    slice-aggregate-triangle-panels-2
-    triangle-panels-requires
+    is-tiny-triangle-requires
+    triangle-requires
     same-length
-    returns)
+    returns
+    blocked-requires
+    same-length-2
+    returns-2
+    blocked-requires-2
+    same-length-3
+    returns-3)

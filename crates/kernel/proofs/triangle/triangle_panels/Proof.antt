@@ -89,8 +89,8 @@ pack-requires-2 c κs = (
       rw (along-up (c .before .before .before .before .before .before .before .before .before .before .before .before .before .before .before .before .before .args .i0) y refl, along-up (c .before .before .before .before .before .before .before .before .before .before .before .loop .l) x refl) (c .before .before .before .before .before .before .before .before .before .before .before .before .before .before .before .before .before .pre .1 .1 .0 y (c .before .before .before .before .before .before .before .before .before .before .before .loop .l + x) hy (omega (arith, turn (c .before .before .before .before .before .before .before .before .before)))),
 )
 
-walks-requires : tie.Need-walks-requires Inv-loop μ-loop
-walks-requires c κs =
+cut-requires : tie.Need-cut-requires Inv-loop μ-loop
+cut-requires c κs =
     let et = ap length (c .before .before .before .before .before .before .before .before .before .scale .ensures) ∙ length-update _ _ ∙ ap length (c .before .before .before .before .before .before .before .before .before .before .before .before .before .pack .ensures) ∙ length-update _ _ in
     let eu = ap length (c .before .before .before .before .before .pack2 .ensures) ∙ length-update _ _ in
     omega (arith, turn (c .before .before .before .before .before .before .before .before .before .before .before .before .before .before .before), et, eu)
@@ -106,7 +106,7 @@ loop-again c =
     let n = turn (c .before .before .before .before .before .before .before .before .before .before .before .before .before .before .before .before .before .before) in
     let e =
     corner-panel _ _ _ _ _ _ _ _ _ _ _ _ _ _ _ _ _ _ _ _ _ _ _ (omega (arith, n)) (omega (arith, n)) (omega (arith, n)) (omega (arith, n)) (omega (arith, n))
-    (c .before .before .before .before .before .before .before .before .before .before .before .before .before .before .before .before .before .before .before .before .loop .inv .4) (c .before .before .before .before .before .before .before .before .before .before .before .before .before .before .before .before .pack .ensures) (c .before .before .before .before .before .before .before .before .before .before .before .before .scale .ensures) (c .before .before .before .before .before .before .before .before .pack2 .ensures) (c .before .before .walks .ensures) in (
+    (c .before .before .before .before .before .before .before .before .before .before .before .before .before .before .before .before .before .before .before .before .loop .inv .4) (c .before .before .before .before .before .before .before .before .before .before .before .before .before .before .before .before .pack .ensures) (c .before .before .before .before .before .before .before .before .before .before .before .before .scale .ensures) (c .before .before .before .before .before .before .before .before .pack2 .ensures) (c .before .before .cut .ensures) in (
       omega (arith, n),
       ap length e ∙ length-update _ _,
       ap length (c .before .before .before .before .before .before .before .before .pack2 .ensures) ∙ length-update _ _ ∙ c .before .before .before .before .before .before .before .before .before .before .before .before .before .before .before .before .before .before .before .before .loop .inv .2,
@@ -139,7 +139,7 @@ triangle-panels-spec =
     pack-requires
     scale-requires
     pack-requires-2
-    walks-requires
+    cut-requires
     add-l
     loop-less
     loop-again

@@ -10,7 +10,8 @@ use Rattle.arrays.proofs.UpdateLaws.{length-update}
 use Rattle.kernel.specs.Product.{corner}
 use Rattle.blocks.specs.Terms.{packed}
 use Rattle.blocks.proofs.TermLaws.{at-once-some}
-use Rattle.kernel.proofs.TriangleLaws.{Inside, Counted, rows-room, corner-none, corner-next, counted-none, counted-more, counted-all}
+use Rattle.kernel.proofs.TrapezoidLaws.{Inside, rows-room, none-yet}
+use Rattle.kernel.proofs.TriangleLaws.{Counted, corner-next, counted-none, counted-more, counted-all}
 use Rattle.kernel.proofs.triangle.walk.Statement.{statement}
 use Rattle.kernel.proofs.triangle.walk.Tie as tie
 
@@ -31,7 +32,7 @@ room : (c : tie.After-pick2 Inv-loop μ-loop) → (c .before .pick .result + c .
 room c = (rows-room (c .before .before .before .before .before .before .before .args .lower) _ _ _ _ (inside c) (c .before .before .loop-test .taken), column-room _ (c .before .before .loop-test .taken), at-once-some (c .before .before .before .before .before .before .before .pre .1 .0))
 
 loop-holds : tie.Need-loop-holds Inv-loop μ-loop
-loop-holds c = (omega arith, refl, omega arith, counted-none (c .before .before .before .args .lower) (c .before .before .before .args .order), corner-none _ _ _ _ _ _ _)
+loop-holds c = (omega arith, refl, omega arith, counted-none (c .before .before .before .args .lower) (c .before .before .before .args .order), none-yet _ _ _ _ _ _)
 
 pick-requires : tie.Need-pick-requires Inv-loop μ-loop
 pick-requires c κs = tt

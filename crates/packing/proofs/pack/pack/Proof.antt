@@ -25,8 +25,8 @@ plain-requires c κs = (
 enum-told-2 : tie.Need-enum-told-2
 enum-told-2 c = search needs
 
-transposed-requires : tie.Need-transposed-requires
-transposed-requires c κs = (
+tiles-requires : tie.Need-tiles-requires
+tiles-requires c κs = (
   omega arith,
   omega arith,
   omega arith,
@@ -63,7 +63,7 @@ same-length-2 : tie.Need-same-length-2
 same-length-2 c = search needs
 
 returns-2 : tie.Need-returns-2
-returns-2 c = placed _ _ _ _ _ (λ y. along (c .before .before .before .before .before .before .before .before .before .args .down) (c .before .before .before .before .before .before .before .before .before .args .i) y) (λ x. along (c .before .before .before .before .before .before .before .before .before .args .across) (c .before .before .before .before .before .before .before .before .before .args .j) x) _ _ _ (c .before .before .transposed .ensures)
+returns-2 c = placed _ _ _ _ _ (λ y. along (c .before .before .before .before .before .before .before .before .before .args .down) (c .before .before .before .before .before .before .before .before .before .args .i) y) (λ x. along (c .before .before .before .before .before .before .before .before .before .args .across) (c .before .before .before .before .before .before .before .before .before .args .j) x) _ _ _ (c .before .before .tiles .ensures)
     (λ y x hy hx. c .before .before .before .before .before .before .way-of .ensures .rows (c .before .before .before .before .enum-told2 .given .1) (c .before .before .before .before .before .before .before .before .before .args .ld) y x hy hx)
 
 same-length-3 : tie.Need-same-length-3
@@ -86,7 +86,7 @@ pack-spec =
     enum-told
     plain-requires
     enum-told-2
-    transposed-requires
+    tiles-requires
     enum-told-3
     is-lower-requires
     block-requires

@@ -1,4 +1,4 @@
--- `mirror::gather` meets its contract: the elements below y are done.
+-- `runs::gather` meets its contract: the elements below y are done.
 -- Assumes nothing.
 use Prim.Native.Nat.{_≤_, _-_, _*_}
 use mathlib.Core.Path.{_≡_, refl}
@@ -9,8 +9,8 @@ use borrow.Author.Needs.{needs}
 use Rattle.arrays.specs.Update.{update, below}
 use Rattle.arrays.proofs.UpdateLaws.{below-none, below-more}
 use Rattle.floats.specs.Array.{at}
-use Rattle.packing.proofs.mirror.gather.Statement.{statement}
-use Rattle.packing.proofs.mirror.gather.Tie as tie
+use Rattle.packing.proofs.runs.gather.Statement.{statement}
+use Rattle.packing.proofs.runs.gather.Tie as tie
 
 abbrev Inv-loop : tie.InvT-loop
 Inv-loop dest₀ n a ld y₀ dest y = (y ≤ n) × (length dest ≡ length dest₀) × (dest ≡ update (below y (λ p x. at a (p * ld))) dest₀)

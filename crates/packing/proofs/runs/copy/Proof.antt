@@ -1,4 +1,4 @@
--- `pack::reversed` meets its contract: the elements below y are done.
+-- `runs::copy` meets its contract: the elements below y are done.
 -- Assumes nothing.
 use Prim.Native.Nat.{_≤_, _-_}
 use mathlib.Core.Path.{_≡_, refl}
@@ -9,23 +9,17 @@ use borrow.Author.Needs.{needs}
 use Rattle.arrays.specs.Update.{update, below}
 use Rattle.arrays.proofs.UpdateLaws.{below-none, below-more}
 use Rattle.floats.specs.Array.{at}
-use Rattle.packing.proofs.pack.reversed.Statement.{statement}
-use Rattle.packing.proofs.pack.reversed.Tie as tie
+use Rattle.packing.proofs.runs.copy.Statement.{statement}
+use Rattle.packing.proofs.runs.copy.Tie as tie
 
 abbrev Inv-loop : tie.InvT-loop
-Inv-loop dest₀ n a y₀ dest y = (y ≤ n) × (length dest ≡ length dest₀) × (dest ≡ update (below y (λ p x. at a (n - 1 - p))) dest₀)
+Inv-loop dest₀ n a y₀ dest y = (y ≤ n) × (length dest ≡ length dest₀) × (dest ≡ update (below y (λ p x. at a p)) dest₀)
 
 abbrev μ-loop : tie.MeasureT-loop
 μ-loop dest₀ n a y₀ dest y = n - y
 
 loop-holds : tie.Need-loop-holds Inv-loop μ-loop
 loop-holds c = (omega arith, refl, below-none _ _)
-
-sub-dest : tie.Need-sub-dest Inv-loop μ-loop
-sub-dest c = omega arith
-
-sub-dest-2 : tie.Need-sub-dest-2 Inv-loop μ-loop
-sub-dest-2 c = omega arith
 
 mul-dest : tie.Need-mul-dest Inv-loop μ-loop
 mul-dest c = omega arith
@@ -54,15 +48,13 @@ same-length c = omega arith
 returns : tie.Need-returns Inv-loop μ-loop
 returns c = let e : c .before .loop .y ≡ c .before .before .args .n = omega arith in rw e at (c .before .loop .inv .2)
 
-pub reversed-spec : {M : Type 1} → statement M
-reversed-spec =
+pub copy-spec : {M : Type 1} → statement M
+copy-spec =
     tie.close
     (tie.spec
     Inv-loop
     μ-loop
     loop-holds
-    sub-dest
-    sub-dest-2
     mul-dest
     shared-slice-read-dest
     mul-dest-2
