@@ -2,10 +2,11 @@
 # link.sh IN OUT: makes the library, OUT/libthamrunlek.a and OUT/libthamrunlek.so. IN has libexports.a, the archive of the proved module, and, as build.sh keeps
 # them, the module itself (module.bc), the compiler (clang) and the words that it was called with (words).
 #
-# The compiler compiles the module with these words for x86-64, x86-64-v3 and x86-64-v4, with one thing changed: its buffers start at a cache line. Without that
-# change, what it makes for x86-64 must be the archive's object, byte for byte. A build counts if it multiplies in registers as wide as its processors have and
-# has no fused multiply-add, which rounds once where the definitions round twice. Its functions get names of their own, and a section of it has the module's
-# digest; the digests are compared in the finished library. The names that the archive exports are those of the library: choice.c makes a jump of each.
+# The compiler compiles the module with these words for x86-64, x86-64-v3 and x86-64-v4, with two things changed, neither of which decides what is computed: its
+# buffers start at a cache line, and it is said which functions are inlined. Without these changes, what it makes for x86-64 must be the archive's object, byte
+# for byte. A build counts if it multiplies in registers as wide as its processors have and has no fused multiply-add, which rounds once where the definitions
+# round twice. Its functions get names of their own, and a section of it has the module's digest; the digests are compared in the finished library. The names
+# that the archive exports are those of the library: choice.c makes a jump of each.
 set -euo pipefail
 here=$(cd "$(dirname "$0")" && pwd)
 in=$(cd "$1" && pwd) out=$(cd "$2" && pwd)
@@ -44,14 +45,32 @@ compile() {
     done < "$in/words"
     "$in/clang" "${words[@]}" || fail "the module does not compile for $1"
 }
+# Inlined are the crates, modules and functions on the way from a call to the loops, so that each call has a check and a way of its own. Not inlined are functions
+# that have buffers, so that a tiny call has none of them in its frame. The others are left to the compiler.
+inlined='definitions packing::mirror packing::pack::transposed arguments start forms kernel lines elements gemm rank_update::syrk_strip
+    rank_update::syr2k_strip rank_update::add_product rank_update::add_columns trmm trsm strips blas'
 once() { [ "$(grep -cxe "$1" "$in/words")" = 1 ]; }
 if [ -f "$in/words" ] && once -march=x86-64 && once '.*\.bc' && once '.*\.o'; then
-    # A local array of a thousand bytes or more is a buffer, and the module leaves its place in the cache to chance.
     "$in/clang" -x ir -S -emit-llvm -O0 -Xclang -disable-llvm-passes "$in/module.bc" -o module.ll
-    sed -E 's/(alloca \[[0-9]{4,} x i8\]), align 8$/\1, align 64/' module.ll > aligned.ll
-    ! cmp -s module.ll aligned.ll || echo "library: link.sh knows no buffer of the module, so that their places are left to chance"
+    awk -v inlined="$(echo $inlined)" '
+        function listed(name) { for (i in part) if (index(name "::", part[i] "::") == 1) return 1 }
+        BEGIN { split(inlined, part, " ") }
+        /^define / { name = $0 }
+        # A local array of a thousand bytes or more is a buffer.
+        { buffer = /alloca \[[0-9][0-9][0-9][0-9]+ x i8\], align 8$/ }
+        NR == FNR { if (buffer) apart[name]; next }
+        buffer { sub(/8$/, "64") }
+        /^define internal / {
+            split($0, quoted, "\"")
+            if ($0 in apart) sub(/ #[0-9]+ \{$/, " noinline&")
+            else if (listed(quoted[2])) sub(/ #[0-9]+ \{$/, " alwaysinline&")
+        }
+        { print }' module.ll module.ll > prepared.ll
+    for word in 'align 64' noinline alwaysinline; do
+        grep -q " $word" prepared.ll || echo "library: link.sh finds nothing in the module for '$word'; the library is right, and may be slow"
+    done
     for cpu in x86-64 x86-64-v3 x86-64-v4; do
-        compile $cpu "$PWD/aligned.ll" compiled-$cpu.o
+        compile $cpu "$PWD/prepared.ll" compiled-$cpu.o
         objdump -d --no-show-raw-insn compiled-$cpu.o > $cpu.txt
         grep -q "mulpd .*%${registers[$cpu]}" $cpu.txt || fail "the build for $cpu does not multiply in ${registers[$cpu]} registers"
         ! grep -m 3 -E 'vfn?m(add|sub)' $cpu.txt >&2 || fail "the build for $cpu has fused operations, see above"

@@ -7,7 +7,7 @@ ghost use Rattle.definitions.specs.Check as Check;
 ghost use Rattle.definitions.specs.Direct as Direct;
 ghost use Rattle.definitions.specs.declared.Call.{Call as CallOf};
 ghost use Rattle.definitions.specs.declared.Checked.the-variants.{Refused, Ready};
-ghost use Rattle.strips.specs.Lengths.{FitsArrays};
+ghost use Rattle.strips.specs.Lengths.{FitsArrays, widest};
 use definitions::Args;
 use definitions::Call;
 use definitions::Checked;
@@ -15,17 +15,34 @@ use definitions::Routine;
 use definitions::Scalar;
 use definitions::SolveEnd;
 
-// All strips of a call that fits, each of w columns or rows but for the last. It hands back what the last one reports, which is what each of them does.
+// How many columns, or rows, of a call go through its routine at once: four strips of w for a product, which packs A once for all of them.
+fn at_once(routine: Routine, w: usize) -> usize
+    requires { ⌜ (0 < w) × (w ≤ 64) ⌝ }
+    ensures { λ r. ⌜ (0 < r) × (r ≤ widest routine) ⌝ }
+{
+    match routine {
+        Routine::Gemm => 4 * w,
+        Routine::Symm => 4 * w,
+        Routine::Syrk => w,
+        Routine::Syr2k => w,
+        Routine::Trmm => w,
+        Routine::Trsm => w,
+    }
+}
+
+// All strips of a call that fits, as many of them at once as its routine takes. It hands back what the last ones report, which is what each of them does.
 fn complete(call: Call, a: &[f64], b: &[f64], out: &mut [f64], w: usize, r: usize) -> i32
     requires { ⌜ FitsArrays call (length (now a)) (length (now b)) (length (now out)) ⌝ }
     requires { ⌜ (0 < w) × (w ≤ 64) × (0 < r) × (r ≤ 64) ⌝ }
     ensures { λ x. ⌜ (now (out .exit) ≡ Element.result call (now (a .entry)) (now (b .entry)) (now (out .entry))) × (x ≡ Element.zeroOf (call .routine) call (now (a .entry))) ⌝ }
 {
     let d = arguments::extent(call);
+    let routine = call.routine;
+    let most = at_once(routine, w);
     let mut zero = -1;
     let mut from = 0;
     while from < d {
-        let lines = arrays::smaller(w, d - from);
+        let lines = arrays::smaller(most, d - from);
         zero = strips::strip(call, a, b, out, from, lines, r);
         from += lines;
     }

@@ -98,7 +98,7 @@ pub fn small(n: usize) -> usize
 // The product of two packed blocks, added to rows by cols entries of c.
 pub fn block(c: &mut [f64], ld: usize, rows: usize, cols: usize, terms: usize, u: &[f64], t: &[f64])
     requires { ⌜ (0 < ld) × (rows ≤ ld) × (cols * ld + rows ≤ length (now c) + ld) ⌝ }
-    requires { ⌜ (rows ≤ 64) × (cols ≤ 64) × (terms ≤ 64) × (terms * 64 + rows ≤ length (now u) + 64) × (cols * 64 + terms ≤ length (now t) + 64) ⌝ }
+    requires { ⌜ (rows ≤ 64) × (terms ≤ 64) × (terms * 64 + rows ≤ length (now u) + 64) × (cols * 64 + terms ≤ length (now t) + 64) ⌝ }
     ensures { λ _. ⌜ now (c .exit) ≡ update (region ld rows cols (packed terms (now (u .entry)) (now (t .entry)))) (now (c .entry)) ⌝ }
 {
     let mut j = 0;

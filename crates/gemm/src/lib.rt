@@ -35,7 +35,7 @@ fn accumulate(
     from: usize,
     r: usize,
 )
-    requires { ⌜ (0 < rows) × (rows ≤ ld) × (cols * ld + rows ≤ length (now c) + ld) × (0 < cols) × (cols ≤ 64) × (0 < r) × (r ≤ 64) × (from + cols < 18446744073709551616) ⌝ }
+    requires { ⌜ (0 < rows) × (rows ≤ ld) × (cols * ld + rows ≤ length (now c) + ld) × (0 < cols) × (cols ≤ 256) × (0 < r) × (r ≤ 64) × (from + cols < 18446744073709551616) ⌝ }
     requires { ⌜ (isZero alpha ≡ false → (i l : ℕ) → i < rows → l < k → indexOf fa lda i l < length (now a)) × (isZero alpha ≡ false → (l j : ℕ) → l < k → j < cols → indexOf fb ldb l (from + j) < length (now b)) ⌝ }
     ensures { λ _. ⌜ now (c .exit) ≡ update (region ld rows cols (summed alpha beta (entryOf fa (now (a .entry)) lda) (fromColumn from (entryOf fb (now (b .entry)) ldb)) k)) (now (c .entry)) ⌝ }
 {
@@ -74,7 +74,7 @@ pub fn gemm_strip(
     r: usize,
 )
     requires { ⌜ Fits Gemm call (length (now a)) (length (now b)) (from * call .ldc + length (now c)) ⌝ }
-    requires { ⌜ (0 < cols) × (cols ≤ 64) × (from + cols ≤ call .n) × (0 < r) × (r ≤ 64) ⌝ }
+    requires { ⌜ (0 < cols) × (cols ≤ 256) × (from + cols ≤ call .n) × (0 < r) × (r ≤ 64) ⌝ }
     ensures { λ _. ⌜ StripOf call (now (a .entry)) (now (b .entry)) from (from + cols) (from * call .ldc) (now (c .entry)) (now (c .exit)) ⌝ }
 {
     let transa = call.transa;
@@ -118,7 +118,7 @@ pub fn symm_strip(
     r: usize,
 )
     requires { ⌜ Fits Symm call (length (now a)) (length (now b)) (from * call .ldc + length (now c)) ⌝ }
-    requires { ⌜ (0 < cols) × (cols ≤ 64) × (from + cols ≤ call .n) × (0 < r) × (r ≤ 64) ⌝ }
+    requires { ⌜ (0 < cols) × (cols ≤ 256) × (from + cols ≤ call .n) × (0 < r) × (r ≤ 64) ⌝ }
     ensures { λ _. ⌜ StripOf call (now (a .entry)) (now (b .entry)) from (from + cols) (from * call .ldc) (now (c .entry)) (now (c .exit)) ⌝ }
 {
     let uplo = call.uplo;

@@ -525,17 +525,24 @@ fn within(rows: usize, cols: usize, k: usize, limit: usize) -> bool
     true
 }
 
-// The product is tiny enough to be made directly: at most 16 each way, and at most one factor is mirrored.
+// Tiny enough to be made without buffers: at most 16 each way.
+pub fn tiny(rows: usize, cols: usize, k: usize) -> bool
+    ensures { λ r. ⌜ (r ≡ true → (rows ≤ 16) × (cols ≤ 16) × (k ≤ 16)) ⌝ }
+{
+    within(rows, cols, k, 16)
+}
+
+// The product is tiny, and at most one factor is mirrored.
 pub fn is_tiny(fa: Form, fb: Form, rows: usize, cols: usize, k: usize) -> bool
     ensures { λ r. ⌜ (r ≡ true → (isMirrored fa ≡ true → (rows ≤ 16) × (k ≤ 16) × (isMirrored fb ≡ false)) × (isMirrored fb ≡ true → (cols ≤ 16) × (k ≤ 16))) ⌝ }
 {
     if mirror::is_mirrored(fa) & mirror::is_mirrored(fb) {
         return false;
     }
-    within(rows, cols, k, 16)
+    tiny(rows, cols, k)
 }
 
-// The same of a product in one triangle: at most 16 each way, and no factor is mirrored.
+// The same of a product in one triangle, and no factor is mirrored.
 pub fn is_tiny_triangle(fa: Form, fb: Form, order: usize, k: usize) -> bool
     ensures { λ r. ⌜ (r ≡ true → (isMirrored fa ≡ false) × (isMirrored fb ≡ false)) ⌝ }
 {
@@ -545,7 +552,7 @@ pub fn is_tiny_triangle(fa: Form, fb: Form, order: usize, k: usize) -> bool
     if mirror::is_mirrored(fb) {
         return false;
     }
-    within(order, order, k, 16)
+    tiny(order, order, k)
 }
 
 // A tiny product.

@@ -32,7 +32,7 @@ pub fn multiply(
     down: bool,
     r: usize,
 )
-    requires { ⌜ (0 < rows) × (rows ≤ ld) × (cols * ld + rows ≤ length (now c) + ld) × (0 < cols) × (cols ≤ 64) × (0 < r) × (r ≤ 64) ⌝ }
+    requires { ⌜ (0 < rows) × (rows ≤ ld) × (cols * ld + rows ≤ length (now c) + ld) × (0 < cols) × (cols ≤ 256) × (0 < r) × (r ≤ 64) ⌝ }
     requires { ⌜ (i0 + rows < 18446744073709551616) × (j0 + cols < 18446744073709551616) ⌝ }
     requires { ⌜ ((i l : ℕ) → i < rows → l < k → indexOf fa lda (i0 + i) l < length (now a)) × ((l j : ℕ) → l < k → j < cols → indexOf fb ldb l (j0 + j) < length (now b)) ⌝ }
     ensures { λ _. ⌜ now (c .exit) ≡ update (region ld rows cols (product alpha (fromRow i0 (entryOf fa (now (a .entry)) lda)) (fromColumn j0 (entryOf fb (now (b .entry)) ldb)) down k)) (now (c .entry)) ⌝ }
@@ -57,8 +57,7 @@ pub fn multiply(
         );
         return;
     }
-    // A product within a block of 32 has the same blocks for any larger r.
-    if (rows <= 32) & (k <= 32) & (32 < r) {
+    if cols <= 64 {
         panels::blocked(
             c,
             ld,
@@ -75,11 +74,11 @@ pub fn multiply(
             j0,
             alpha,
             down,
-            32,
+            r,
         );
         return;
     }
-    panels::blocked(
+    panels::wide(
         c,
         ld,
         rows,

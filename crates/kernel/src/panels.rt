@@ -36,7 +36,7 @@ fn sweep(
     u: &mut [f64],
     t: &[f64],
 )
-    requires { ⌜ (0 < ld) × (rows ≤ ld) × (cols * ld + rows ≤ length (now c) + ld) × (0 < cols) × (cols ≤ 64) × (cols * 64 ≤ length (now t)) ⌝ }
+    requires { ⌜ (0 < ld) × (rows ≤ ld) × (cols * ld + rows ≤ length (now c) + ld) × (0 < cols) × (cols * 64 ≤ length (now t)) ⌝ }
     requires { ⌜ (0 < terms) × (terms ≤ 64) × (terms * 64 ≤ length (now u)) × (0 < r) × (r ≤ 64) × (i0 + rows < 18446744073709551616) × Indices down l0 terms ⌝ }
     requires { ⌜ ((i q : ℕ) → i < rows → q < terms → indexOf fa lda (i0 + i) (along down l0 q) < length (now a)) ⌝ }
     ensures { λ _. ⌜ (now (c .exit) ≡ update (region ld rows cols (halfPacked terms (now (t .entry)) (λ i q. entryOf fa (now (a .entry)) lda (i0 + i) (along down l0 q)))) (now (c .entry))) × (length (now (u .exit)) ≡ length (now (u .entry))) ⌝ }
@@ -71,7 +71,7 @@ fn panels(
     u: &mut [f64],
     t: &mut [f64],
 )
-    requires { ⌜ (0 < rows) × (rows ≤ ld) × (cols * ld + rows ≤ length (now c) + ld) × (0 < cols) × (cols ≤ 64) × (0 < r) × (r ≤ 64) × (4096 ≤ length (now u)) × (4096 ≤ length (now t)) ⌝ }
+    requires { ⌜ (0 < rows) × (rows ≤ ld) × (cols * ld + rows ≤ length (now c) + ld) × (0 < cols) × (0 < r) × (r ≤ 64) × (4096 ≤ length (now u)) × (cols * 64 ≤ length (now t)) ⌝ }
     requires { ⌜ (i0 + rows < 18446744073709551616) × (j0 + cols < 18446744073709551616) ⌝ }
     requires { ⌜ ((i l : ℕ) → i < rows → l < k → indexOf fa lda (i0 + i) l < length (now a)) × ((l j : ℕ) → l < k → j < cols → indexOf fb ldb l (j0 + j) < length (now b)) ⌝ }
     ensures { λ _. ⌜ now (c .exit) ≡ update (region ld rows cols (product alpha (fromRow i0 (entryOf fa (now (a .entry)) lda)) (fromColumn j0 (entryOf fb (now (b .entry)) ldb)) down k)) (now (c .entry)) ⌝ }
@@ -87,7 +87,7 @@ fn panels(
     }
 }
 
-// The same with buffers of its own.
+// The same with buffers of its own, for at most 64 columns,
 pub fn blocked(
     c: &mut [f64],
     ld: usize,
@@ -113,6 +113,54 @@ pub fn blocked(
 {
     let mut u = [0.0f64; 4096];
     let mut t = [0.0f64; 4096];
+    panels(
+        c,
+        ld,
+        rows,
+        cols,
+        k,
+        fa,
+        a,
+        lda,
+        i0,
+        fb,
+        b,
+        ldb,
+        j0,
+        alpha,
+        down,
+        r,
+        &mut u,
+        &mut t,
+    );
+}
+
+// and for at most 256, so that each block of rows is packed once for all of them.
+pub fn wide(
+    c: &mut [f64],
+    ld: usize,
+    rows: usize,
+    cols: usize,
+    k: usize,
+    fa: Form,
+    a: &[f64],
+    lda: usize,
+    i0: usize,
+    fb: Form,
+    b: &[f64],
+    ldb: usize,
+    j0: usize,
+    alpha: f64,
+    down: bool,
+    r: usize,
+)
+    requires { ⌜ (0 < rows) × (rows ≤ ld) × (cols * ld + rows ≤ length (now c) + ld) × (0 < cols) × (cols ≤ 256) × (0 < r) × (r ≤ 64) ⌝ }
+    requires { ⌜ (i0 + rows < 18446744073709551616) × (j0 + cols < 18446744073709551616) ⌝ }
+    requires { ⌜ ((i l : ℕ) → i < rows → l < k → indexOf fa lda (i0 + i) l < length (now a)) × ((l j : ℕ) → l < k → j < cols → indexOf fb ldb l (j0 + j) < length (now b)) ⌝ }
+    ensures { λ _. ⌜ now (c .exit) ≡ update (region ld rows cols (product alpha (fromRow i0 (entryOf fa (now (a .entry)) lda)) (fromColumn j0 (entryOf fb (now (b .entry)) ldb)) down k)) (now (c .entry)) ⌝ }
+{
+    let mut u = [0.0f64; 4096];
+    let mut t = [0.0f64; 16384];
     panels(
         c,
         ld,

@@ -219,27 +219,6 @@ pub fn triangle(
         );
         return;
     }
-    // A product within a block of 32 has the same blocks for any larger r.
-    if (order <= 32) & (k <= 32) & (32 < r) {
-        blocked(
-            lower,
-            c,
-            ld,
-            order,
-            k,
-            fa,
-            a,
-            lda,
-            i0,
-            fb,
-            b,
-            ldb,
-            j0,
-            alpha,
-            32,
-        );
-        return;
-    }
     blocked(
         lower,
         c,

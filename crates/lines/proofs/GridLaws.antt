@@ -107,7 +107,7 @@ module _ {A : Type 0} where
   grid-keep false ld m lines f b h = region-keep ld lines m _ b (λ i j hi hj x. h j i hj hi x)
 
   -- element q of line l
-  grid-cell : (left : Bool) (ld m lines len : ℕ) (f : ℕ → ℕ → A → A) (q l : ℕ) (x : A) → Room left ld m lines len → q < m → l < lines
+  pub grid-cell : (left : Bool) (ld m lines len : ℕ) (f : ℕ → ℕ → A → A) (q l : ℕ) (x : A) → Room left ld m lines len → q < m → l < lines
       → grid left ld m lines f (cell left ld q l) x ≡ f q l x
   unfolding grid cell
   grid-cell true ld m lines len f q l x r hq hl = region-at ld m lines _ q l x (omega arith) hq hl

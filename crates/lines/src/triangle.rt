@@ -86,7 +86,7 @@ fn by_rows(after: bool, down: bool, a: &[f64], lda: usize, x0: usize, n: usize, 
 }
 
 // Whether the coefficients of an element stand in a column of A, and not in a row.
-fn are_columns(left: bool, t: Transpose) -> bool
+pub fn are_columns(left: bool, t: Transpose) -> bool
     ensures { λ r. ⌜ r ≡ byColumns left t ⌝ }
 {
     match t {

@@ -5,7 +5,7 @@ use mathlib.Core.Path.{_≡_, refl, sym}
 use Prim.Native.Nat.{ℕ, _+_, _-_, _*_, _<_, _≤_}
 use native.Mathlib.Omega.{arith}
 use borrow.Author.Tests.{le-leb, lt-leb}
-use Rattle.packing.specs.Factor.{Indices, isMirrored, isLower, mirroredForm, indexOf, along}
+use Rattle.packing.specs.Factor.{Indices, Within, isMirrored, isLower, mirroredForm, indexOf, along}
 use Rattle.packing.specs.declared.Form.{Form}
 use Rattle.packing.specs.declared.Form.the-variants.{Plain, Transposed, Lower, Upper}
 
@@ -53,9 +53,36 @@ pub along-down : {down : Bool} (from q : ℕ) → down ≡ true → along down f
 unfolding along
 along-down from q e = rw e
 
+-- the r-th index from the q-th one on
+pub along-on : (down : Bool) (from q r : ℕ) → along down (along down from q) r ≡ along down from (q + r)
+unfolding along
+along-on false from q r = omega arith
+along-on true from q r = omega arith
+
+-- the same indices p places further on, and that they are places of an array
+pub along-after : (down : Bool) {from n : ℕ} (p q : ℕ) → q < n → Indices down from n → along down (p + from) q ≡ p + along down from q
+unfolding along
+along-after false p q h b = omega arith
+along-after true p q h b = omega (arith, b .back refl)
+
+pub within-after : {down : Bool} {from n : ℕ} (p len : ℕ) → 0 < n → Indices down from n → ((q : ℕ) → q < n → p + along down from q < len)
+    → Within down (p + from) n len
+within-after {from} {n} p len h b room = record {
+  up = λ d. omega (arith, room (n - 1) (omega arith), along-up from (n - 1) d);
+  back = λ d. (omega (arith, b .back d), omega (arith, room 0 h, along-down from 0 d));
+}
+
+pub within-first : (down : Bool) {from n len : ℕ} → 0 < n → Within down from n len → from < len
+within-first false h w = omega (arith, w .up refl)
+within-first true h w = omega (arith, w .back refl)
+
 -- the first indices of some
 pub fewer : {down : Bool} {from : ℕ} (n m : ℕ) → m ≤ n → Indices down from n → Indices down from m
 fewer n m h f = record { up = λ d. let b = f .up d in omega arith; back = λ d. let b = f .back d in omega arith }
+
+-- the indices from the q-th one on
+pub later : {down : Bool} {from p : ℕ} (q n : ℕ) → p ≡ along down from q → Indices down from (q + n) → Indices down p n
+later {from} q n e b = record { up = λ d. omega (arith, b .up d, along-up from q d); back = λ d. omega (arith, b .back d, along-down from q d) }
 
 pub upward : (from n : ℕ) → from + n < 18446744073709551616 → Indices false from n
 upward from n h = record { up = λ _. h; back = λ d. let z : _≡_ {A = ℕ} 0 1 = cc in omega arith }

@@ -1,4 +1,4 @@
--- Laws of packing: how a block can be read, and what a line that was copied holds.
+-- Laws of packing: how a block can be read, and what the lines that were copied hold.
 -- Assumes nothing.
 use mathlib.Core.Bool.{Bool, true, false}
 use mathlib.Core.Path.{_≡_, sym, ap, ap₂, _∙_}
@@ -14,12 +14,12 @@ use Rattle.arrays.proofs.UpdateLaws.{lt-or-ge, below-same}
 use Rattle.arrays.proofs.PartLaws.{tail-at}
 use Rattle.arrays.proofs.RegionLaws.{region-same, region-columns}
 use Rattle.floats.specs.Array.{at}
-use Rattle.packing.specs.Factor.{Reads, isMirrored, isLower, mirroredForm, indexOf, entryOf, along}
+use Rattle.packing.specs.Factor.{Indices, Reads, isMirrored, isLower, mirroredForm, indexOf, entryOf, along}
 use Rattle.packing.specs.declared.Form.{Form}
 use Rattle.packing.specs.declared.Form.the-variants.{Plain, Transposed, Lower, Upper}
 use Rattle.packing.specs.declared.Way.{Way}
 use Rattle.packing.specs.declared.Way.the-variants.{Columns, Rows, Mirrored, Entries}
-use Rattle.packing.proofs.FactorLaws.{index-plain, index-transposed, index-lower, index-lower-mirrored, index-upper, index-upper-mirrored, by-triangle, along-up}
+use Rattle.packing.proofs.FactorLaws.{index-plain, index-transposed, index-lower, index-lower-mirrored, index-upper, index-upper-mirrored, by-triangle, along-up, along-down, along-on, along-after}
 
 -- ---- how a block can be read
 
@@ -41,63 +41,59 @@ module _ {down across : Bool} (i ny j nx : ℕ) (d : down ≡ false) (a : across
   above-diagonal : i + ny ≤ j + 1 → (y x : ℕ) → y < ny → along down i y ≤ along across j x
   above-diagonal h y x hy = omega (arith, along-up i y d, along-up j x a)
 
-  -- where row and column are the same
-  on-diagonal : (ld y x : ℕ) → along across j x ≡ along down i y → along across j x * ld + along down i y ≡ along down i y * ld + (j + x)
-  on-diagonal ld y x e = ap₂ (λ (r c : ℕ). r * ld + c) e (sym e ∙ along-up j x a)
+-- where row and column are the same
+on-diagonal : (ld r c : ℕ) → c ≡ r → c * ld + r ≡ r * ld + c
+on-diagonal ld r c e = ap₂ (λ (s t : ℕ). s * ld + t) e (sym e)
 
 module _ {form : Form} {down across : Bool} (i ny j nx : ℕ) where
   pub reads-entries : Reads form down across i ny j nx Entries
   reads-entries = record { columns = λ z. let w = distinct z in absurd (let f : ⊥ = omega arith in f); rows = λ z. let w = distinct z in absurd (let f : ⊥ = omega arith in f); mirrored = λ z. let w = distinct z in absurd (let f : ⊥ = omega arith in f) }
 
-  by-columns : ((ld y x : ℕ) → y < ny → x < nx → indexOf form ld (along down i y) (along across j x) ≡ along across j x * ld + (i + y))
+  by-columns : ((ld y x : ℕ) → y < ny → x < nx → indexOf form ld (along down i y) (along across j x) ≡ along across j x * ld + along down i y)
       → Reads form down across i ny j nx Columns
   by-columns h = record { columns = λ z. h; rows = λ z. let w = distinct z in absurd (let f : ⊥ = omega arith in f); mirrored = λ z. let w = distinct z in absurd (let f : ⊥ = omega arith in f) }
 
-  by-rows : ((ld y x : ℕ) → y < ny → x < nx → indexOf form ld (along down i y) (along across j x) ≡ along down i y * ld + (j + x))
+  by-rows : ((ld y x : ℕ) → y < ny → x < nx → indexOf form ld (along down i y) (along across j x) ≡ along down i y * ld + along across j x)
       → Reads form down across i ny j nx Rows
   by-rows h = record { columns = λ z. let w = distinct z in absurd (let f : ⊥ = omega arith in f); rows = λ z. h; mirrored = λ z. let w = distinct z in absurd (let f : ⊥ = omega arith in f) }
 
   pub reads-mirrored : isMirrored form ≡ true → down ≡ false → across ≡ false → Reads form down across i ny j nx Mirrored
   reads-mirrored e d a = record { columns = λ z. let w = distinct z in absurd (let f : ⊥ = omega arith in f); rows = λ z. let w = distinct z in absurd (let f : ⊥ = omega arith in f); mirrored = λ z. (e, d, a) }
 
-  pub reads-plain : form ≡ Plain → down ≡ false → Reads form down across i ny j nx Columns
-  reads-plain e d = by-columns (λ ld y x hy hx. index-plain ld _ _ e ∙ ap (λ (r : ℕ). along across j x * ld + r) (along-up i y d))
+  pub reads-plain : form ≡ Plain → Reads form down across i ny j nx Columns
+  reads-plain e = by-columns (λ ld y x hy hx. index-plain ld _ _ e)
 
-  pub reads-transposed : form ≡ Transposed → across ≡ false → Reads form down across i ny j nx Rows
-  reads-transposed e d = by-rows (λ ld y x hy hx. index-transposed ld _ _ e ∙ ap (λ (r : ℕ). along down i y * ld + r) (along-up j x d))
+  pub reads-transposed : form ≡ Transposed → Reads form down across i ny j nx Rows
+  reads-transposed e = by-rows (λ ld y x hy hx. index-transposed ld _ _ e)
 
   -- a symmetric factor on one side of the diagonal
   module _ (d : down ≡ false) (a : across ≡ false) where
     pub lower-columns : form ≡ Lower → j + nx ≤ i + 1 → Reads form down across i ny j nx Columns
-    lower-columns e h =
-        by-columns (λ ld y x hy hx. index-lower ld _ _ e (below-diagonal i ny j nx d a h y x hx) ∙ ap (λ (r : ℕ). along across j x * ld + r) (along-up i y d))
+    lower-columns e h = by-columns (λ ld y x hy hx. index-lower ld _ _ e (below-diagonal i ny j nx d a h y x hx))
 
     pub lower-rows : form ≡ Lower → i + ny ≤ j + 1 → Reads form down across i ny j nx Rows
     lower-rows e h =
         by-rows
         (λ ld y x hy hx.
         ⊎-elim
-        (λ (b : along down i y < along across j x).
-        index-lower-mirrored ld _ _ e b ∙ ap (λ (r : ℕ). along down i y * ld + r) (along-up j x a))
+        (λ (b : along down i y < along across j x). index-lower-mirrored ld _ _ e b)
         (λ b.
         let k = above-diagonal i ny j nx d a h y x hy in
-        index-lower ld _ _ e b ∙ on-diagonal i ny j nx d a ld y x (omega arith))
+        index-lower ld _ _ e b ∙ on-diagonal ld _ _ (omega arith))
         (lt-or-ge (along down i y) (along across j x)))
 
     pub upper-columns : form ≡ Upper → i + ny ≤ j + 1 → Reads form down across i ny j nx Columns
-    upper-columns e h =
-        by-columns (λ ld y x hy hx. index-upper ld _ _ e (above-diagonal i ny j nx d a h y x hy) ∙ ap (λ (r : ℕ). along across j x * ld + r) (along-up i y d))
+    upper-columns e h = by-columns (λ ld y x hy hx. index-upper ld _ _ e (above-diagonal i ny j nx d a h y x hy))
 
     pub upper-rows : form ≡ Upper → j + nx ≤ i + 1 → Reads form down across i ny j nx Rows
     upper-rows e h =
         by-rows
         (λ ld y x hy hx.
         ⊎-elim
-        (λ (b : along across j x < along down i y).
-        index-upper-mirrored ld _ _ e b ∙ ap (λ (r : ℕ). along down i y * ld + r) (along-up j x a))
+        (λ (b : along across j x < along down i y). index-upper-mirrored ld _ _ e b)
         (λ b.
         let k = below-diagonal i ny j nx d a h y x hx in
-        index-upper ld _ _ e b ∙ on-diagonal i ny j nx d a ld y x (omega arith))
+        index-upper ld _ _ e b ∙ on-diagonal ld _ _ (omega arith))
         (lt-or-ge (along across j x) (along down i y)))
 
 -- a block that is mirrored from one triangle
@@ -127,32 +123,43 @@ mirrored-block form a {lower} {down} {across} ld ny nx i j d₀ d e h ed =
     placed form a ld ny nx (λ y. along down i y) (λ x. along across j x) (λ y x. indexOf (mirroredForm lower) ld (i + y) (j + x)) d₀ d ed
     (λ y x hy hx. mirrored-index form ld i j y x e h)
 
--- a line that was copied from a column of the array
-pub one-line : (a : List Float) (across : Bool) (j x ld i n p : ℕ) (w ys : List Float) → p * ld ≡ along across j x * ld
-    → ys ≡ update (below n (λ y _. at (take (length a - (p * ld + i)) (drop (p * ld + i) a)) y)) w
-    → ys ≡ update (below n (λ y _. at a (along across j x * ld + (i + y)))) w
-one-line a across j x ld i n p w ys k e =
-    e
-    ∙ below-same _ _ w n
-    (λ y b _. tail-at (p * ld + i) a y nan ∙ ap (at a) (let z : p * ld + i + y ≡ along across j x * ld + (i + y) = omega arith in z))
+-- ---- runs of elements, up or down
 
--- a column of the array that was spread over the lines, as their element y
-pub one-row : (a : List Float) (down : Bool) (i y ld j n p : ℕ) (w ys : List Float) → p * ld ≡ along down i y * ld
-    → ys ≡ update (region 64 1 n (λ r x _. at (take (length a - (p * ld + j)) (drop (p * ld + j) a)) x)) w
-    → ys ≡ update (region 64 1 n (λ r x _. at a (along down i (y + r) * ld + (j + x)))) w
-one-row a down i y ld j n p w ys k e =
+-- an element of the run, as an element of the part from the run's lowest place on
+module _ {down : Bool} (a : List Float) (from y : ℕ) where
+  pub run-up : down ≡ false → at (take (length a - from) (drop from a)) y ≡ at a (along down from y)
+  run-up d = tail-at from a y nan ∙ ap (at a) (sym (along-up from y d))
+
+  pub run-down : (n : ℕ) → down ≡ true → y < n → n ≤ from + 1
+      → at (take (length a - (from + 1 - n)) (drop (from + 1 - n) a)) (n - 1 - y) ≡ at a (along down from y)
+  run-down n d h b = tail-at (from + 1 - n) a (n - 1 - y) nan ∙ ap (at a) (omega (arith, along-down from y d))
+
+-- a line that was copied from column p of the array
+pub one-line : (a : List Float) (down : Bool) (ld i n p q : ℕ) (w ys : List Float) → Indices down i n → p ≡ q
+    → ys ≡ update (below n (λ y _. at a (along down (p * ld + i) y))) w
+    → ys ≡ update (below n (λ y _. at a (q * ld + along down i y))) w
+one-line a down ld i n p q w ys b k e =
+    e ∙ below-same _ _ w n (λ y h _. ap (at a) (along-after down (p * ld) y h b ∙ ap (λ (c : ℕ). c * ld + along down i y) k))
+
+-- column p of the array that was spread over the lines, as their element y
+pub one-row : (a : List Float) (down across : Bool) (i y ld j n p : ℕ) (w ys : List Float) → Indices across j n → p ≡ along down i y
+    → ys ≡ update (region 64 1 n (λ r x _. at a (along across (p * ld + j) x))) w
+    → ys ≡ update (region 64 1 n (λ r x _. at a (along down i (y + r) * ld + along across j x))) w
+one-row a down across i y ld j n p w ys b k e =
     e
     ∙ region-same 64 1 n _ _ w (omega arith)
     (λ r x hr hx _.
-    tail-at (p * ld + j) a x nan
-    ∙ ap (at a) (let z : p * ld + j + x ≡ along down i y * ld + (j + x) = omega arith in z)
-    ∙ ap (λ (q : ℕ). at a (along down i q * ld + (j + x))) (omega arith))
+    ap (at a) (along-after across (p * ld) x hx b
+    ∙ ap (λ (c : ℕ). c * ld + along across j x) (k ∙ ap (along down i) (omega arith))))
 
 -- n lines more, whose elements are parts of rows of the array
-pub lines-more : (a : List Float) (down : Bool) (i ld j ny x n : ℕ) (l m ys : List Float) → ny ≤ 64 → x * 64 ≤ length l
-    → m ≡ update (region 64 ny x (λ y x _. at a (along down i y * ld + (j + x)))) l
-    → ys ≡ update (region 64 ny n (λ y r _. at a (along down i y * ld + (j + x + r)))) (take (length m - x * 64) (drop (x * 64) m))
-    → putMid (x * 64) (length m - x * 64) m ys ≡ update (region 64 ny (x + n) (λ y x _. at a (along down i y * ld + (j + x)))) l
-lines-more a down i ld j ny x n l m ys few fit em ey =
-    region-columns nan 64 (omega arith) ny x n (λ y x _. at a (along down i y * ld + (j + x))) l m ys few fit em
-    (ey ∙ region-same 64 ny n _ _ (take (length m - x * 64) (drop (x * 64) m)) (omega arith) (λ y r hy hr _. ap (at a) (omega arith)))
+pub lines-more : (a : List Float) (down across : Bool) (i ld j ny x n p : ℕ) (l m ys : List Float) → ny ≤ 64 → x * 64 ≤ length l
+    → p ≡ along across j x
+    → m ≡ update (region 64 ny x (λ y x _. at a (along down i y * ld + along across j x))) l
+    → ys ≡ update (region 64 ny n (λ y r _. at a (along down i y * ld + along across p r))) (take (length m - x * 64) (drop (x * 64) m))
+    → putMid (x * 64) (length m - x * 64) m ys ≡ update (region 64 ny (x + n) (λ y x _. at a (along down i y * ld + along across j x))) l
+lines-more a down across i ld j ny x n p l m ys few fit k em ey =
+    region-columns nan 64 (omega arith) ny x n (λ y x _. at a (along down i y * ld + along across j x)) l m ys few fit em
+    (ey
+    ∙ region-same 64 ny n _ _ (take (length m - x * 64) (drop (x * 64) m)) (omega arith)
+    (λ y r hy hr _. ap (λ (c : ℕ). at a (along down i y * ld + c)) (ap (λ (q : ℕ). along across q r) k ∙ along-on across j x r)))

@@ -4,6 +4,7 @@
 --     entryOf   entry (i, j) of a factor
 --     along     the q-th index from `from` on, up or down
 --     Indices   the n indices from `from` on, up or down, are numbers of the machine
+--     Within    these indices are places of an array of len elements
 --     isMirrored, isLower, mirroredForm   a form that mirrors a triangle, and which one
 --     Reads     a way in which the block of ny by nx entries from (i, j) on can be read
 use mathlib.Core.Bool.{Bool, true, false}
@@ -39,6 +40,10 @@ pub record Indices (down : Bool) (from n : ℕ) : Type 0 where
   pub up : down ≡ false → from + n < 18446744073709551616
   pub back : down ≡ true → n ≤ from + 1
 
+pub record Within (down : Bool) (from n len : ℕ) : Type 0 where
+  pub up : down ≡ false → from + n ≤ len
+  pub back : down ≡ true → (n ≤ from + 1) × (from < len)
+
 abbrev pub isMirrored : Form → Bool
 isMirrored Plain = false
 isMirrored Transposed = false
@@ -56,6 +61,6 @@ mirroredForm true = Lower
 mirroredForm false = Upper
 
 pub record Reads (form : Form) (down across : Bool) (i ny j nx : ℕ) (way : Way) : Type 0 where
-  pub columns : way ≡ Columns → (ld y x : ℕ) → y < ny → x < nx → indexOf form ld (along down i y) (along across j x) ≡ along across j x * ld + (i + y)
-  pub rows : way ≡ Rows → (ld y x : ℕ) → y < ny → x < nx → indexOf form ld (along down i y) (along across j x) ≡ along down i y * ld + (j + x)
+  pub columns : way ≡ Columns → (ld y x : ℕ) → y < ny → x < nx → indexOf form ld (along down i y) (along across j x) ≡ along across j x * ld + along down i y
+  pub rows : way ≡ Rows → (ld y x : ℕ) → y < ny → x < nx → indexOf form ld (along down i y) (along across j x) ≡ along down i y * ld + along across j x
   pub mirrored : way ≡ Mirrored → (isMirrored form ≡ true) × (down ≡ false) × (across ≡ false)

@@ -34,7 +34,7 @@ fn line(
     }
 }
 
-// A block whose lines are parts of columns of the array, rows i and on.
+// A block whose lines are parts of columns of the array.
 fn plain(
     dest: &mut [f64],
     ny: usize,
@@ -42,23 +42,24 @@ fn plain(
     a: &[f64],
     ld: usize,
     i: usize,
+    down: bool,
     j: usize,
     across: bool,
 )
-    requires { ⌜ (0 < ny) × (ny ≤ 64) × (nx * 64 ≤ length (now dest)) × Indices across j nx × ((y x : ℕ) → y < ny → x < nx → along across j x * ld + (i + y) < length (now a)) ⌝ }
-    ensures { λ _. ⌜ now (dest .exit) ≡ update (region 64 ny nx (λ y x _. at (now (a .entry)) (along across j x * ld + (i + y)))) (now (dest .entry)) ⌝ }
+    requires { ⌜ (0 < ny) × (ny ≤ 64) × (nx * 64 ≤ length (now dest)) × Indices down i ny × Indices across j nx × ((y x : ℕ) → y < ny → x < nx → along across j x * ld + along down i y < length (now a)) ⌝ }
+    ensures { λ _. ⌜ now (dest .exit) ≡ update (region 64 ny nx (λ y x _. at (now (a .entry)) (along across j x * ld + along down i y))) (now (dest .entry)) ⌝ }
 {
     let mut x = 0;
     while x < nx {
         let to = x * 64;
         let column = factor::step(across, j, x);
         let from = column * ld + i;
-        runs::copy(&mut dest[to..], ny, &a[from..]);
+        runs::copy_from(&mut dest[to..], ny, a, from, down);
         x += 1;
     }
 }
 
-// A block whose lines are parts of rows of the array, read column by column: columns j and on.
+// A block whose lines are parts of rows of the array, read column by column.
 fn transposed(
     dest: &mut [f64],
     ny: usize,
@@ -68,15 +69,16 @@ fn transposed(
     i: usize,
     down: bool,
     j: usize,
+    across: bool,
 )
-    requires { ⌜ (ny ≤ 64) × (0 < nx) × (nx * 64 ≤ length (now dest)) × Indices down i ny × ((y x : ℕ) → y < ny → x < nx → along down i y * ld + (j + x) < length (now a)) ⌝ }
-    ensures { λ _. ⌜ now (dest .exit) ≡ update (region 64 ny nx (λ y x _. at (now (a .entry)) (along down i y * ld + (j + x)))) (now (dest .entry)) ⌝ }
+    requires { ⌜ (ny ≤ 64) × (0 < nx) × (nx * 64 ≤ length (now dest)) × Indices down i ny × Indices across j nx × ((y x : ℕ) → y < ny → x < nx → along down i y * ld + along across j x < length (now a)) ⌝ }
+    ensures { λ _. ⌜ now (dest .exit) ≡ update (region 64 ny nx (λ y x _. at (now (a .entry)) (along down i y * ld + along across j x))) (now (dest .entry)) ⌝ }
 {
     let mut y = 0;
     while y < ny {
         let column = factor::step(down, i, y);
         let from = column * ld + j;
-        runs::spread(&mut dest[y..], nx, &a[from..]);
+        runs::spread_from(&mut dest[y..], nx, a, from, across);
         y += 1;
     }
 }
@@ -91,21 +93,24 @@ fn tiles(
     i: usize,
     down: bool,
     j: usize,
+    across: bool,
 )
-    requires { ⌜ (ny ≤ 64) × (0 < ny) × (nx * 64 ≤ length (now dest)) × Indices down i ny × ((y x : ℕ) → y < ny → x < nx → along down i y * ld + (j + x) < length (now a)) ⌝ }
-    ensures { λ _. ⌜ now (dest .exit) ≡ update (region 64 ny nx (λ y x _. at (now (a .entry)) (along down i y * ld + (j + x)))) (now (dest .entry)) ⌝ }
+    requires { ⌜ (ny ≤ 64) × (nx * 64 ≤ length (now dest)) × Indices down i ny × Indices across j nx × ((y x : ℕ) → y < ny → x < nx → along down i y * ld + along across j x < length (now a)) ⌝ }
+    ensures { λ _. ⌜ now (dest .exit) ≡ update (region 64 ny nx (λ y x _. at (now (a .entry)) (along down i y * ld + along across j x))) (now (dest .entry)) ⌝ }
 {
     let mut x = 0;
     while x + 8 <= nx {
         let to = x * 64;
-        transposed(&mut dest[to..], ny, 8, a, ld, i, down, j + x);
+        let first = factor::step(across, j, x);
+        transposed(&mut dest[to..], ny, 8, a, ld, i, down, first, across);
         x += 8;
     }
     if x == nx {
         return;
     }
     let last = x * 64;
-    transposed(&mut dest[last..], ny, nx - x, a, ld, i, down, j + x);
+    let rest = factor::step(across, j, x);
+    transposed(&mut dest[last..], ny, nx - x, a, ld, i, down, rest, across);
 }
 
 // A block entry by entry, in any form: line x and element y of the line at x * stride + y.
@@ -134,22 +139,16 @@ pub fn lines(
     }
 }
 
-// How a block can be read. A symmetric factor's block on one side of the diagonal is plain or transposed.
+// How a block can be read. A symmetric factor's block on one side of the diagonal is plain or transposed, if it runs up.
 fn way_of(form: Form, down: bool, across: bool, i: usize, ny: usize, j: usize, nx: usize) -> Way
     requires { ⌜ Indices down i ny × Indices across j nx × (0 < ny) × (0 < nx) ⌝ }
     ensures { λ r. ⌜ Reads form down across i ny j nx r ⌝ }
 {
     match form {
         Form::Plain => {
-            if down {
-                return Way::Entries;
-            }
             return Way::Columns;
         }
         Form::Transposed => {
-            if across {
-                return Way::Entries;
-            }
             return Way::Rows;
         }
         Form::Lower => {
@@ -203,8 +202,8 @@ pub fn pack(
 {
     let way = way_of(form, down, across, i, ny, j, nx);
     match way {
-        Way::Columns => plain(dest, ny, nx, a, ld, i, j, across),
-        Way::Rows => tiles(dest, ny, nx, a, ld, i, down, j),
+        Way::Columns => plain(dest, ny, nx, a, ld, i, down, j, across),
+        Way::Rows => tiles(dest, ny, nx, a, ld, i, down, j, across),
         Way::Mirrored => {
             let lower = mirror::is_lower(form);
             mirror::block(dest, 64, ny, nx, lower, a, ld, i, j);

@@ -16,15 +16,25 @@ use Rattle.arrays.proofs.PartLaws.{tail, tail-length, put-tail}
 use Rattle.definitions.specs.Call.{_by_, bySide, inPlace, ldOutput, cutsRows, extent}
 use Rattle.definitions.specs.Element.{zeroOf, strip, result, StripOf}
 use Rattle.definitions.specs.declared.Routine.{Routine}
+use Rattle.definitions.specs.declared.Routine.the-variants.{Gemm, Symm, Syrk, Syr2k, Trmm, Trsm}
 use Rattle.definitions.specs.declared.Side.{Side}
 use Rattle.definitions.specs.declared.Side.the-variants.{Left, Right}
 use Rattle.definitions.specs.declared.Call.{Call}
 use Rattle.definitions.proofs.Fits.{Room, Fits, entry-inside, output-fits}
 use Rattle.definitions.proofs.Strips.{strip-join}
 use Rattle.arguments.specs.Strip.{stripStart}
-use Rattle.strips.specs.Lengths.{FitsArrays}
+use Rattle.strips.specs.Lengths.{FitsArrays, widest}
 
 -- ---- one strip
+
+-- a strip of any routine
+pub few-lines : (r : Routine) (n : ℕ) → n ≤ 64 → n ≤ widest r
+few-lines Gemm n h = omega arith
+few-lines Symm n h = omega arith
+few-lines Syrk n h = h
+few-lines Syr2k n h = h
+few-lines Trmm n h = h
+few-lines Trsm n h = h
 
 output-room : (c : Call) (la lb len : ℕ) → FitsArrays c la lb len → Room len (ldOutput c) (c .m by c .n)
 output-room c la lb len h =

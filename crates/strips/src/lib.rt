@@ -4,7 +4,7 @@ ghost use Prim.Native.Nat.{_+_, _≤_, _<_};
 ghost use lib.ListN.{length};
 ghost use Rattle.definitions.specs.Call as Calls;
 ghost use Rattle.definitions.specs.Element as Element;
-ghost use Rattle.strips.specs.Lengths.{FitsArrays};
+ghost use Rattle.strips.specs.Lengths.{FitsArrays, widest};
 use definitions::Call;
 use definitions::Routine;
 
@@ -20,7 +20,7 @@ pub fn strip(
     r: usize,
 ) -> i32
     requires { ⌜ FitsArrays call (length (now a)) (length (now b)) (length (now out)) ⌝ }
-    requires { ⌜ (0 < lines) × (lines ≤ 64) × (from + lines ≤ Calls.extent call) × (0 < r) × (r ≤ 64) ⌝ }
+    requires { ⌜ (0 < lines) × (lines ≤ widest (call .routine)) × (from + lines ≤ Calls.extent call) × (0 < r) × (r ≤ 64) ⌝ }
     ensures { λ x. ⌜ (now (out .exit) ≡ Element.strip call (now (a .entry)) (now (b .entry)) from (from + lines) (now (out .entry)))
         × (x ≡ Element.zeroOf (call .routine) call (now (a .entry))) ⌝ }
 {

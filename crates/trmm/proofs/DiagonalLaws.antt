@@ -61,7 +61,7 @@ unfolding coefficient
 coefficient-beside true diag M q p h = sym (beside diag M q p h)
 coefficient-beside false diag M q p h = sym (beside diag M p q (λ z. h (sym z)))
 
-coefficient-own : (left : Bool) (T : Matrix) (p : ℕ) → T p p ≡ coefficient left T p p
+pub coefficient-own : (left : Bool) (T : Matrix) (p : ℕ) → T p p ≡ coefficient left T p p
 unfolding coefficient
 coefficient-own true T p = refl
 coefficient-own false T p = refl

@@ -21,7 +21,7 @@ use definitions::Diagonal;
 use definitions::Transpose;
 
 // Entry (p, p) of op(A).
-fn pivot(diag: Diagonal, a: &[f64], lda: usize, p: usize) -> f64
+pub fn pivot(diag: Diagonal, a: &[f64], lda: usize, p: usize) -> f64
     requires { ⌜ p * lda + p < length (now a) ⌝ }
     ensures { λ r. ⌜ ((t : TransposeOf) → r ≡ withDiagonal 1f diag (entryOf (opForm t) (now (a .entry)) lda) p p) ⌝ }
 {

@@ -31,7 +31,7 @@ use Rattle.lines.proofs.GridLaws.{within-in, within-before, within-after, by-wi
 use Rattle.trsm.specs.Solve.{first, ordered, solution, stateOf, solving, front, solveTerm, solveEnd, blockValue, Step}
 use Rattle.trsm.proofs.FactorLaws.{shifted-term}
 use Rattle.trsm.proofs.OrderLaws.{turn-from, within-turn, ordered-at}
-use Rattle.trsm.proofs.StateLaws.{value-from, value-only, block-ended, front-in}
+use Rattle.trsm.proofs.StateLaws.{value-from, value-only, narrower, wider, block-ended, front-in}
 
 -- ---- the diagonal
 
@@ -119,7 +119,10 @@ module _ (term term′ : ℕ → Float → ℕ → Float → Float) (finish fini
         → c ≡ update (solving left down ld m lines nan term finish start (front (p + n) (p + n) k)) b₀
     unfolding ordered
     block-step w c ew ec =
-        block-ended nan term finish left down ld m lines start b₀ pos p n k value b c value-solved eb
+        wider nan term finish left down ld m lines start b₀ pos (p + n) (p + n) p k c
+        (block-ended nan term finish left down ld m lines start b₀ pos p n (front (p + n) p k) (λ q l _. value (q - p) l) b c
+        (λ q l lo up hl. value-solved (q - p) l (omega arith) hl ∙ ap (solution nan term finish (start l)) (omega arith))
+        (narrower nan term finish left down ld m lines start b₀ pos (p + n) p p k b (omega arith) eb)
         (ec ∙ grid-same left ld m lines _ _ b pos
         (λ i l hi hl e.
         by-within x0 n i _ _ _
@@ -128,7 +131,7 @@ module _ (term term′ : ℕ → Float → ℕ → Float → Float) (finish fini
         ∙ ap (λ (q : ℕ). value q l) (element-unknown down m p n x0 (i - x0) i low ex (omega arith) (omega arith))
         ∙ chosen i l e hi (within-in x0 n i lo up))
         (λ lo. chosen i l e hi (within-before x0 n i lo))
-        (λ up. chosen i l e hi (within-after x0 n i up))))
+        (λ up. chosen i l e hi (within-after x0 n i up)))))
       where
         chosen : {t : Bool} (i l : ℕ) (e : Float) → i < m → within x0 n i ≡ t
             → (if t then value (turn down m i - p) l else e) ≡ (if within p n (turn down m i) then value (turn down m i - p) l else e)

@@ -5,6 +5,7 @@ pub mod FactorLaws
 pub mod BlockLaws
 pub mod ZeroLaws
 pub mod StepLaws
+pub mod ElementLaws
 pub mod WayLaws
 pub mod LineLaws
 pub mod ValueLaws

@@ -4,7 +4,7 @@ use mathlib.Core.Bool.{Bool}
 use mathlib.Core.Path.{_≡_, refl, sym, ap, _∙_}
 use mathlib.Core.Logic.{⊎-elim, _⊎_, inl, inr}
 use mathlib.Core.List.{List}
-use Prim.Native.Nat.{ℕ, zero, suc, _+_, _-_, _<_, _≤_}
+use Prim.Native.Nat.{ℕ, zero, suc, _+_, _<_, _≤_}
 use native.Mathlib.Omega.{arith}
 use lib.ListN.{length, getD}
 use borrow.Author.Tests.{lt-ltb, le-ltb}
@@ -137,11 +137,11 @@ module _ {A : Type 0} (d : A) (term : ℕ → A → ℕ → A → A) (finish : �
           (λ up.
           ap (λ (j : ℕ). stateOf d term finish (start l) j q) (front-out i (p + n) (front to p k) q (omega arith) ∙ sym (front-out (i + h) (p + n) (front to p k) q up))))
 
-      -- the unknowns from the p-th on, n of them, whose sums had p terms and which now have their values
-      pub block-ended : (p n : ℕ) (k : ℕ → ℕ) (v : ℕ → ℕ → A) (b c : List A)
-          → ((t l : ℕ) → t < n → l < lines → v t l ≡ solution d term finish (start l) (p + t))
-          → Solving (front (p + n) p k) b
-          → c ≡ update (ordered left down ld m lines (λ q l x. if within p n q then v (q - p) l else x)) b
+      -- the unknowns from the p-th on, n of them, which now have their values; those before them had theirs
+      pub block-ended : (p n : ℕ) (k : ℕ → ℕ) (v : ℕ → ℕ → A → A) (b c : List A)
+          → ((q l : ℕ) → p ≤ q → q < p + n → l < lines → v q l (stateOf d term finish (start l) (k q) q) ≡ solution d term finish (start l) q)
+          → Solving (front p p k) b
+          → c ≡ update (ordered left down ld m lines (λ q l x. if within p n q then v q l x else x)) b
           → Solving (front (p + n) (p + n) k) c
       unfolding solving
       block-ended p n k v b c hv eb ec =
@@ -149,13 +149,13 @@ module _ {A : Type 0} (d : A) (term : ℕ → A → ℕ → A → A) (finish : �
           (λ q l hq hl x.
           by-within p n q _ _ _
           (λ lo up.
-          hv (q - p) l (omega arith) hl
-          ∙ ap (solution d term finish (start l)) (omega arith)
+          ap (λ (j : ℕ). v q l (stateOf d term finish (start l) j q)) (front-out p p k q lo)
+          ∙ hv q l lo up hl
           ∙ sym (state-done (start l) (front (p + n) (p + n) k q) q (omega (arith, front-in (p + n) (p + n) k q up))))
           (λ lo.
-          state-same (start l) (front (p + n) p k q) (front (p + n) (p + n) k q) q
-          (inr (omega (arith, front-in (p + n) p k q (omega arith)), omega (arith, front-in (p + n) (p + n) k q (omega arith)))))
-          (λ up. ap (λ (j : ℕ). stateOf d term finish (start l) j q) (front-out (p + n) p k q up ∙ sym (front-out (p + n) (p + n) k q up))))
+          state-same (start l) (front p p k q) (front (p + n) (p + n) k q) q
+          (inr (omega (arith, front-in p p k q lo), omega (arith, front-in (p + n) (p + n) k q (omega arith)))))
+          (λ up. ap (λ (j : ℕ). stateOf d term finish (start l) j q) (front-out p p k q (omega arith) ∙ sym (front-out (p + n) (p + n) k q up))))
 
       pub all-started : (f : ℕ → ℕ → A → A) (k : ℕ → ℕ) (c : List A) → c ≡ update (ordered left down ld m lines f) b₀
           → ((q l : ℕ) → q < m → l < lines → f q l (getD b₀ (cell left ld (turn down m q) l) d) ≡ start l q) → Solving (front m 0 k) c

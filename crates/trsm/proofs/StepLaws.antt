@@ -30,11 +30,11 @@ pub minus-one : neg (ofBits binary64 0x3ff0_0000_0000_0000) ≡ −1f
 unfolding neg ofBits
 minus-one = refl
 
--- what a block of terms reads of A
-pub block-inside : (left : Bool) (t : Transpose) (ld len m y h x n : ℕ) → ((i j : ℕ) → i < m → j < m → indexOf (opForm t) ld i j < len) → y + h ≤ m → x + n ≤ m
-    → (q p : ℕ) → q < h → p < n → (if left then indexOf (opForm t) ld (y + q) (x + p) else indexOf (opForm t) ld (x + p) (y + q)) < len
-block-inside true t ld len m y h x n inside hy hx q p hq hp = inside (y + q) (x + p) (omega arith) (omega arith)
-block-inside false t ld len m y h x n inside hy hx q p hq hp = inside (x + p) (y + q) (omega arith) (omega arith)
+-- what the term of element p for the sum of element i reads of A
+pub term-inside : (left : Bool) (t : Transpose) (ld len m i p : ℕ) → ((i j : ℕ) → i < m → j < m → indexOf (opForm t) ld i j < len) → i < m → p < m
+    → (if left then indexOf (opForm t) ld i p else indexOf (opForm t) ld p i) < len
+term-inside true t ld len m i p inside hi hp = inside i p hi hp
+term-inside false t ld len m i p inside hi hp = inside p i hp hi
 
 -- a buffer has room for at most 64 elements of at most 64 lines
 buffer-room : (left : Bool) (n lines len : ℕ) → n ≤ 64 → lines ≤ 64 → 4096 ≤ len → Room left 64 n lines len

@@ -1,7 +1,7 @@
-// TRSM: the update of one strip. The unknowns are solved in order: a block of them, and then its terms in the sums of all that are left. Each function that solves
-// hands back the lowest index at which the diagonal is zero, or one past the last if there is none.
+// TRSM: the update of one strip. The unknowns are solved in order: a block of them, and then its terms in the sums of all that are left; in a tiny call one after the
+// other, straight from the arrays. Each function that solves hands back the lowest index at which the diagonal is zero, or one past the last if there is none.
 ghost use mathlib.Core.Path.{_≡_};
-ghost use mathlib.Core.Bool.{true, false, not, _&&_};
+ghost use mathlib.Core.Bool.{Bool, true, false, not, _&&_};
 ghost use mathlib.Core.List.{List};
 ghost use Prim.Native.Nat.{ℕ, _+_, _*_, _≤_, _<_};
 ghost use lib.ListN.{length};
@@ -22,6 +22,7 @@ ghost use Rattle.blocks.specs.Terms.{packed};
 ghost use Rattle.kernel.specs.Product.{turn};
 ghost use Rattle.forms.specs.Forms.{opForm};
 ghost use Rattle.lines.specs.Lines.{cell, grid, coefficient, Room};
+ghost use Rattle.elements.specs.Sums.{finished};
 ghost use Rattle.trsm.specs.Solve.{first, ordered, front, valueFactor, matrixFactor, blockValue, packedValue, lineValue, zeroAmong, Step};
 use blocks::block;
 use blocks::pass;
@@ -30,6 +31,8 @@ use definitions::Diagonal;
 use definitions::Scalar;
 use definitions::Side;
 use definitions::Transpose;
+use elements::End;
+use elements::Start;
 use kernel::panels;
 use lines::triangle;
 use packing::runs;
@@ -360,6 +363,98 @@ fn solve(
     zero
 }
 
+// How the sum of an unknown ends: with the division by a[k], unless the diagonal is unit.
+fn end_of(diag: Diagonal, a: &[f64], k: usize) -> End
+    requires { ⌜ k < length (now a) ⌝ }
+    ensures { λ r. ⌜ ((left : Bool) (alpha e y : Float) → finished left alpha r e y ≡ divided diag e (at (now (a .entry)) k)) ⌝ }
+{
+    match diag {
+        Diagonal::Unit => End::Sum,
+        Diagonal::Nonunit => End::Quotient(a[k]),
+    }
+}
+
+// Whether that is a division by zero.
+fn ends_by_zero(diag: Diagonal, a: &[f64], k: usize) -> bool
+    requires { ⌜ k < length (now a) ⌝ }
+    ensures { λ r. ⌜ r ≡ byZero diag (at (now (a .entry)) k) ⌝ }
+{
+    match diag {
+        Diagonal::Unit => false,
+        Diagonal::Nonunit => a[k] == 0.0,
+    }
+}
+
+// The j-th unknown of all lines, straight from the arrays, when those before it are solved.
+fn solve_element(
+    left: bool,
+    down: bool,
+    diag: Diagonal,
+    b: &mut [f64],
+    ld: usize,
+    m: usize,
+    lines: usize,
+    t: Transpose,
+    a: &[f64],
+    lda: usize,
+    j: usize,
+)
+    requires { ⌜ (j < m) × (0 < lines) ⌝ }
+    requires { ⌜ Room left ld m lines (length (now b)) ⌝ }
+    requires { ⌜ ((i j : ℕ) → i < m → j < m → indexOf (opForm t) lda i j < length (now a)) ⌝ }
+    ensures { λ _. ⌜ Step left down ld m lines diag (entryOf (opForm t) (now (a .entry)) lda) (λ k. front j j (front m 0 k)) (λ k. front (j + 1) (j + 1) (front m 0 k)) (now (b .entry)) (now (b .exit)) ⌝ }
+{
+    let i = panels::turn_of(down, m, j);
+    let k = i * lda + i;
+    elements::element(
+        left,
+        -1.0,
+        b,
+        ld,
+        m,
+        lines,
+        i,
+        Start::Value,
+        end_of(diag, a, k),
+        t,
+        a,
+        lda,
+        down,
+        panels::turn_of(down, m, 0),
+        j,
+    );
+}
+
+// All unknowns, one after the other, without buffers: for tiny calls.
+fn solve_elements(
+    left: bool,
+    down: bool,
+    diag: Diagonal,
+    b: &mut [f64],
+    ld: usize,
+    m: usize,
+    lines: usize,
+    t: Transpose,
+    a: &[f64],
+    lda: usize,
+) -> usize
+    requires { ⌜ (0 < m) × (0 < lines) ⌝ }
+    requires { ⌜ Room left ld m lines (length (now b)) ⌝ }
+    requires { ⌜ ((i j : ℕ) → i < m → j < m → indexOf (opForm t) lda i j < length (now a)) ⌝ }
+    ensures { λ x. ⌜ Step left down ld m lines diag (entryOf (opForm t) (now (a .entry)) lda) (front m 0) (front m m) (now (b .entry)) (now (b .exit))
+        × Lowest (λ i. byZero diag (entryOf (opForm t) (now (a .entry)) lda i i)) m x ⌝ }
+{
+    let mut zero = m;
+    let mut j = 0;
+    while j < m {
+        let i = panels::turn_of(down, m, j);
+        solve_element(left, down, diag, b, ld, m, lines, t, a, lda, j);
+        zero = lower(zero, ends_by_zero(diag, a, i * lda + i), i);
+        j += 1;
+    }
+    zero
+}
+
 // All lines: cleared if alpha is zero (A is not read), else solved with alpha times B as the start.
 fn solve_lines(
     left: bool,
@@ -388,6 +483,9 @@ fn solve_lines(
         return m;
     }
     pass::scale(b, ld, rows, cols, alpha.factor());
+    if kernel::direct::tiny(m, lines, m) {
+        return solve_elements(left, down, diag, b, ld, m, lines, t, a, lda);
+    }
     solve(left, down, diag, b, ld, m, lines, t, a, lda, r)
 }
 

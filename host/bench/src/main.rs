@@ -1,9 +1,10 @@
 //! Times the builds of the library against each other, netlib's BLAS and OpenBLAS, in one run on one core.
 //!
-//! `bench [ROUTINE..]` prints a table for the named routines, or for all six. `bench picture` draws docs/speed.svg, the
-//! rates of GEMM and TRSM over the order. The peers of these two come from `peers.sh`. `bench pairs` looks for the best
-//! strip width and block size of each build, `bench choice` times the jump to the build in use, `bench rank-update`
-//! compares SYRK of order 512 with three nested loops, and `bench steps` the steps of call sheets with direct calls.
+//! `bench [ROUTINE..]` prints a table for the named routines, or for all six. `bench summary` says in a line for each
+//! routine and order how it does beside the peers and GEMM. `bench picture` draws docs/speed.svg, the rates of GEMM and
+//! TRSM over the order. The peers of these three come from `peers.sh`. `bench pairs` looks for the best strip width and
+//! block size of each build, `bench choice` times the jump to the build in use, `bench rank-update` compares SYRK of
+//! order 512 with three nested loops, and `bench steps` the steps of call sheets with direct calls.
 
 mod blas;
 mod choice;
@@ -16,6 +17,7 @@ mod problem;
 mod rank_update;
 mod shared;
 mod steps;
+mod summary;
 mod table;
 
 use std::{env, process::ExitCode, time::Instant};
@@ -44,6 +46,7 @@ fn run(words: &[&str]) -> Result<(), String> {
         ["choice"] => choice::report(),
         ["rank-update"] => rank_update::report(&libraries::builds()?)?,
         ["steps"] => steps::report(),
+        ["summary"] => summary::report(libraries::all()?),
         [] => table::print(&Routine::ALL, &libraries::all()?),
         names => {
             let routines: Vec<Routine> = names.iter().map(|name| named(name)).collect::<Result<_, _>>()?;

@@ -6,10 +6,11 @@ use crate::problem::Problem;
 /// A batch has as many calls as fit into this many seconds.
 const BATCH: f64 = 5e-4;
 
-/// The middle one of the times.
+/// The middle one, or the mean of the two in the middle.
 pub fn median(mut times: Vec<f64>) -> f64 {
     times.sort_by(f64::total_cmp);
-    times[times.len() / 2]
+    let half = times.len() / 2;
+    (times[half] + times[times.len() - 1 - half]) / 2.0
 }
 
 /// Whether the elements have the same bits, one by one.

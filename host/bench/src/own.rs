@@ -32,8 +32,8 @@ pub struct Own {
 /// A strip width and a block size.
 pub type Blocks = (i32, i32);
 
-/// The library's own default.
-pub const BLOCKS: Blocks = (64, 64);
+/// The library's own choice.
+pub const BLOCKS: Blocks = (0, 0);
 
 /// The widths and sizes whose pairs are compared; 0 works as 64.
 pub const GRID: [i32; 6] = [0, 8, 16, 32, 48, 64];

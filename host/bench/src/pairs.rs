@@ -9,7 +9,7 @@ use thamrunlek::Routine;
 const N: usize = 512;
 const ROUNDS: usize = 11;
 
-/// How many times as fast as the default each pair is: the median of rounds in which each is timed beside the default.
+/// How many times as fast as the library's choice each pair is: the median of rounds in which each is timed beside it.
 fn gains(own: &Own, problem: &Problem, pairs: &[Blocks]) -> Vec<f64> {
     let (mut out, mut gains) = (problem.start.clone(), vec![vec![]; pairs.len()]);
     let mut time = |pair: Blocks| {
@@ -27,7 +27,7 @@ fn gains(own: &Own, problem: &Problem, pairs: &[Blocks]) -> Vec<f64> {
 /// Prints the best pair for each routine and build.
 pub fn report(builds: &[Library]) {
     let pairs = pairs();
-    println!("n = {N}, w and r of {GRID:?}, each pair beside w = r = 64, medians of {ROUNDS} rounds");
+    println!("n = {N}, w and r of {GRID:?}, each pair beside w = r = 0, medians of {ROUNDS} rounds");
     for routine in Routine::ALL {
         let problem = Problem::new(routine, variants(routine)[0], N);
         for build in builds {

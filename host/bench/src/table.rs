@@ -32,7 +32,7 @@ pub fn print(routines: &[Routine], libraries: &[Library]) {
     let place = |name: &str| libraries.iter().position(|library| library.name == name);
     let ratios: Vec<(usize, usize)> =
         RATIOS.iter().filter_map(|(peer, build)| Some((place(peer)?, place(build)?))).collect();
-    println!("rates in GFLOP/s, the medians of {} batches ({} at n = 512), at w = r = 64", rounds(4), rounds(512));
+    println!("rates in GFLOP/s, the medians of {} batches ({} at n = 512), at w = r = 0", rounds(4), rounds(512));
     println!("then ratios of times: above 1 the second of the two is faster");
     let (mut above, mut below) = (format!("{:17}", ""), format!("{:7}{:>5}{:>5}", "routine", "", "n"));
     for library in libraries {

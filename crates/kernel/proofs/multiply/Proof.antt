@@ -1,4 +1,4 @@
--- `kernel::multiply` meets its contract: a tiny product is made directly, any other by blocks.
+-- `kernel::multiply` meets its contract: a tiny product is made directly, any other by blocks, whatever its width.
 -- Assumes nothing.
 use native.Mathlib.Omega.{arith}
 use borrow.Author.Needs.{needs}
@@ -26,8 +26,8 @@ same-length-2 c = search needs
 returns-2 : tie.Need-returns-2
 returns-2 c = search needs
 
-blocked-requires-2 : tie.Need-blocked-requires-2
-blocked-requires-2 c κs = search needs
+wide-requires : tie.Need-wide-requires
+wide-requires c κs = search needs
 
 same-length-3 : tie.Need-same-length-3
 same-length-3 c = search needs
@@ -46,6 +46,6 @@ multiply-spec =
     blocked-requires
     same-length-2
     returns-2
-    blocked-requires-2
+    wide-requires
     same-length-3
     returns-3)

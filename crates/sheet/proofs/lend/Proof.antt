@@ -7,6 +7,7 @@ use denote.Ref.{now}
 use Rattle.arrays.proofs.PartLaws.{tail-length}
 use mir.Syntax.{w32}
 use mir.ValLaws.{toZ-ofZ}
+use Rattle.strips.proofs.Lent.{few-lines}
 use Rattle.sheet.proofs.Strips.{fits-lengths, lend-back, lend-reports}
 use native.Mathlib.Omega.{arith}
 use borrow.Author.Needs.{needs}
@@ -56,12 +57,12 @@ part-strip-end-3 : tie.Need-part-strip-end-3
 part-strip-end-3 c = search needs
 
 strip-requires : tie.Need-strip-requires
-strip-requires c κs = (
+strip-requires c κs = let l = c .before .before .before .before .before .before .before .before .pre .1 .1 in (
   fits-lengths (c .before .before .before .before .before .before .before .before .args .call) _ _ _ _ _ _
       (tail-length (c .before .before .before .before .before .before .before .before .args .offa) (now (c .before .before .before .before .pick .result)) ∙ ap (λ l. length l - c .before .before .before .before .before .before .before .before .args .offa) (c .before .before .before .before .pick .ensures))
       (tail-length (c .before .before .before .before .before .before .before .before .args .offb) (now (c .before .before .before .pick2 .result)) ∙ ap (λ l. length l - c .before .before .before .before .before .before .before .before .args .offb) (c .before .before .before .pick2 .ensures))
       (tail-length (c .before .before .before .before .before .before .before .before .args .off) (now (c .before .before .before .before .before .before .before .before .args .out))) (c .before .before .before .before .before .before .before .before .pre .1 .0),
-  c .before .before .before .before .before .before .before .before .pre .1 .1,
+  (l .0, few-lines (c .before .before .before .before .before .before .before .before .args .call .routine) _ (l .1), l .2, l .3, l .4),
 )
 
 same-length : tie.Need-same-length

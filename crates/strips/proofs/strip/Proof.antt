@@ -1,7 +1,7 @@
 -- `strips::strip` lends the part of the output from the strip's start on to the routine's update.
 -- Assumes nothing.
 use Prim.Native.Nat.{_≤_}
-use mathlib.Core.Path.{refl, _∙_}
+use mathlib.Core.Path.{refl, ap, _∙_}
 use lib.ListN.{length}
 use denote.Ref.{now}
 use mir.Syntax.{w32}
@@ -10,6 +10,7 @@ use Rattle.definitions.specs.Call.{inPlace}
 use Rattle.definitions.specs.Element.{zeroOf}
 use Rattle.definitions.specs.declared.Routine.the-variants.{Gemm, Symm, Syrk, Syr2k, Trmm, Trsm}
 use Rattle.arguments.specs.Strip.{stripStart}
+use Rattle.strips.specs.Lengths.{widest}
 use Rattle.strips.proofs.Lent.{start-inside, put-strip, start-in-C, columns-of-C, fits-C, start-in-B, fits-B, reports}
 use native.Mathlib.Omega.{arith}
 use borrow.Author.Needs.{needs}
@@ -43,7 +44,7 @@ enum-told c = search needs
 gemm-strip-requires : tie.Need-gemm-strip-requires
 unfolding inPlace
 gemm-strip-requires c κs =
-    (fits-C Gemm (c .before .before .before .before .before .before .before .args .call) (c .enum-told .given .1) refl _ _ _ _ (now (c .before .before .before .before .before .before .before .args .out)) (c .before .before .before .strip-start .ensures) (inside (c .before .before .before)) (c .before .before .before .before .before .before .before .pre .0), omega (arith, columns-of-C Gemm (c .before .before .before .before .before .before .before .args .call) (c .enum-told .given .1) refl, c .before .before .before .before .before .before .before .pre .1))
+    (fits-C Gemm (c .before .before .before .before .before .before .before .args .call) (c .enum-told .given .1) refl _ _ _ _ (now (c .before .before .before .before .before .before .before .args .out)) (c .before .before .before .strip-start .ensures) (inside (c .before .before .before)) (c .before .before .before .before .before .before .before .pre .0), omega (arith, columns-of-C Gemm (c .before .before .before .before .before .before .before .args .call) (c .enum-told .given .1) refl, c .before .before .before .before .before .before .before .pre .1, ap widest (c .enum-told .given .1)))
 
 enum-told-2 : tie.Need-enum-told-2
 enum-told-2 c = search needs
@@ -51,7 +52,7 @@ enum-told-2 c = search needs
 symm-strip-requires : tie.Need-symm-strip-requires
 unfolding inPlace
 symm-strip-requires c κs =
-    (fits-C Symm (c .before .before .before .before .before .before .before .args .call) (c .enum-told2 .given .1) refl _ _ _ _ (now (c .before .before .before .before .before .before .before .args .out)) (c .before .before .before .strip-start .ensures) (inside (c .before .before .before)) (c .before .before .before .before .before .before .before .pre .0), omega (arith, columns-of-C Symm (c .before .before .before .before .before .before .before .args .call) (c .enum-told2 .given .1) refl, c .before .before .before .before .before .before .before .pre .1))
+    (fits-C Symm (c .before .before .before .before .before .before .before .args .call) (c .enum-told2 .given .1) refl _ _ _ _ (now (c .before .before .before .before .before .before .before .args .out)) (c .before .before .before .strip-start .ensures) (inside (c .before .before .before)) (c .before .before .before .before .before .before .before .pre .0), omega (arith, columns-of-C Symm (c .before .before .before .before .before .before .before .args .call) (c .enum-told2 .given .1) refl, c .before .before .before .before .before .before .before .pre .1, ap widest (c .enum-told2 .given .1)))
 
 enum-told-3 : tie.Need-enum-told-3
 enum-told-3 c = search needs
@@ -59,7 +60,7 @@ enum-told-3 c = search needs
 syrk-strip-requires : tie.Need-syrk-strip-requires
 unfolding inPlace
 syrk-strip-requires c κs =
-    (fits-C Syrk (c .before .before .before .before .before .before .before .args .call) (c .enum-told3 .given .1) refl _ _ _ _ (now (c .before .before .before .before .before .before .before .args .out)) (c .before .before .before .strip-start .ensures) (inside (c .before .before .before)) (c .before .before .before .before .before .before .before .pre .0), omega (arith, columns-of-C Syrk (c .before .before .before .before .before .before .before .args .call) (c .enum-told3 .given .1) refl, c .before .before .before .before .before .before .before .pre .1))
+    (fits-C Syrk (c .before .before .before .before .before .before .before .args .call) (c .enum-told3 .given .1) refl _ _ _ _ (now (c .before .before .before .before .before .before .before .args .out)) (c .before .before .before .strip-start .ensures) (inside (c .before .before .before)) (c .before .before .before .before .before .before .before .pre .0), omega (arith, columns-of-C Syrk (c .before .before .before .before .before .before .before .args .call) (c .enum-told3 .given .1) refl, c .before .before .before .before .before .before .before .pre .1, ap widest (c .enum-told3 .given .1)))
 
 enum-told-4 : tie.Need-enum-told-4
 enum-told-4 c = search needs
@@ -67,7 +68,7 @@ enum-told-4 c = search needs
 syr2k-strip-requires : tie.Need-syr2k-strip-requires
 unfolding inPlace
 syr2k-strip-requires c κs =
-    (fits-C Syr2k (c .before .before .before .before .before .before .before .args .call) (c .enum-told4 .given .1) refl _ _ _ _ (now (c .before .before .before .before .before .before .before .args .out)) (c .before .before .before .strip-start .ensures) (inside (c .before .before .before)) (c .before .before .before .before .before .before .before .pre .0), omega (arith, columns-of-C Syr2k (c .before .before .before .before .before .before .before .args .call) (c .enum-told4 .given .1) refl, c .before .before .before .before .before .before .before .pre .1))
+    (fits-C Syr2k (c .before .before .before .before .before .before .before .args .call) (c .enum-told4 .given .1) refl _ _ _ _ (now (c .before .before .before .before .before .before .before .args .out)) (c .before .before .before .strip-start .ensures) (inside (c .before .before .before)) (c .before .before .before .before .before .before .before .pre .0), omega (arith, columns-of-C Syr2k (c .before .before .before .before .before .before .before .args .call) (c .enum-told4 .given .1) refl, c .before .before .before .before .before .before .before .pre .1, ap widest (c .enum-told4 .given .1)))
 
 enum-told-5 : tie.Need-enum-told-5
 enum-told-5 c = search needs
@@ -75,7 +76,7 @@ enum-told-5 c = search needs
 trmm-strip-requires : tie.Need-trmm-strip-requires
 unfolding inPlace
 trmm-strip-requires c κs =
-    (fits-B Trmm (c .before .before .before .before .before .before .before .args .call) (c .enum-told5 .given .1) refl _ _ _ _ (now (c .before .before .before .before .before .before .before .args .out)) (c .before .before .before .strip-start .ensures) (inside (c .before .before .before)) (c .before .before .before .before .before .before .before .pre .0), omega (arith, c .before .before .before .before .before .before .before .pre .1))
+    (fits-B Trmm (c .before .before .before .before .before .before .before .args .call) (c .enum-told5 .given .1) refl _ _ _ _ (now (c .before .before .before .before .before .before .before .args .out)) (c .before .before .before .strip-start .ensures) (inside (c .before .before .before)) (c .before .before .before .before .before .before .before .pre .0), omega (arith, c .before .before .before .before .before .before .before .pre .1, ap widest (c .enum-told5 .given .1)))
 
 enum-told-6 : tie.Need-enum-told-6
 enum-told-6 c = search needs
@@ -83,7 +84,7 @@ enum-told-6 c = search needs
 trsm-strip-requires : tie.Need-trsm-strip-requires
 unfolding inPlace
 trsm-strip-requires c κs =
-    (fits-B Trsm (c .before .before .before .before .before .before .before .args .call) (c .enum-told6 .given .1) refl _ _ _ _ (now (c .before .before .before .before .before .before .before .args .out)) (c .before .before .before .strip-start .ensures) (inside (c .before .before .before)) (c .before .before .before .before .before .before .before .pre .0), omega (arith, c .before .before .before .before .before .before .before .pre .1))
+    (fits-B Trsm (c .before .before .before .before .before .before .before .args .call) (c .enum-told6 .given .1) refl _ _ _ _ (now (c .before .before .before .before .before .before .before .args .out)) (c .before .before .before .strip-start .ensures) (inside (c .before .before .before)) (c .before .before .before .before .before .before .before .pre .0), omega (arith, c .before .before .before .before .before .before .before .pre .1, ap widest (c .enum-told6 .given .1)))
 
 same-length : tie.Need-same-length
 same-length c = search needs

@@ -110,7 +110,7 @@ part-block-end-2 : tie.Need-part-block-end-2 Inv-loop μ-loop
 part-block-end-2 c = omega (arith, turn (c .before .before))
 
 block-requires : tie.Need-block-requires Inv-loop μ-loop
-block-requires c κs = ((omega (arith, turn (c .before .before .before)), omega (arith, turn (c .before .before .before)), simp tail-length (omega (arith, turn (c .before .before .before)))), (omega (arith, turn (c .before .before .before)), omega (arith, turn (c .before .before .before)), omega (arith, turn (c .before .before .before)), omega (arith, turn (c .before .before .before)), simp tail-length (omega (arith, turn (c .before .before .before)))))
+block-requires c κs = ((omega (arith, turn (c .before .before .before)), omega (arith, turn (c .before .before .before)), simp tail-length (omega (arith, turn (c .before .before .before)))), (omega (arith, turn (c .before .before .before)), omega (arith, turn (c .before .before .before)), omega (arith, turn (c .before .before .before)), simp tail-length (omega (arith, turn (c .before .before .before)))))
 
 mul-solve-unknowns : tie.Need-mul-solve-unknowns Inv-loop μ-loop
 mul-solve-unknowns c = omega (arith, turn (c .before .before .before .before .before .before))

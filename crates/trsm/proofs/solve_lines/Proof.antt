@@ -2,7 +2,6 @@
 -- Assumes nothing.
 use mathlib.Core.Path.{sym, _∙_}
 use denote.Ref.{now}
-use Rattle.arrays.proofs.SearchLaws.{lowest-none}
 use Rattle.packing.specs.Factor.{entryOf}
 use Rattle.forms.specs.Forms.{opForm}
 use Rattle.lines.proofs.GridLaws.{some-ld}
@@ -23,43 +22,65 @@ is-zero-requires c κs = search needs
 
 clear-requires : tie.Need-clear-requires
 clear-requires c κs =
-    let g = c .before .before .before .before .before .before .before .args in
-    let some = (some-ld (g .left) (g .ld) (g .m) (g .lines) _ (omega (arith, c .before .before .before .before .before .before .before .pre)) (omega (arith, c .before .before .before .before .before .before .before .pre)) (c .before .before .before .before .before .before .before .pre .1 .0)) in
-    rw (c .before .before .before .before .pick .ensures, c .before .before .before .pick2 .ensures) (some, c .before .before .before .before .before .before .before .pre .1 .0 .0, c .before .before .before .before .before .before .before .pre .1 .0 .1)
+    let s = c .before .before .before .before .before .before .before in
+    let g = s .args in
+    rw (c .before .before .before .before .pick .ensures, c .before .before .before .pick2 .ensures) (some-ld (g .left) (g .ld) (g .m) (g .lines) _ (omega (arith, s .pre)) (omega (arith, s .pre)) (s .pre .1 .0), s .pre .1 .0 .0, s .pre .1 .0 .1)
 
 same-length : tie.Need-same-length
 same-length c = search needs
 
 returns : tie.Need-returns
 returns c =
-    let g = c .before .before .before .before .before .before .before .before .before .before .args in (
-      all-cleared (g .left) (g .down) (g .ld) (g .m) (g .lines) (g .diag) (g .alpha) (entryOf (opForm (g .t)) (now (g .a)) (g .lda)) (some-ld (g .left) (g .ld) (g .m) (g .lines) _ (omega (arith, c .before .before .before .before .before .before .before .before .before .before .pre)) (omega (arith, c .before .before .before .before .before .before .before .before .before .before .pre)) (c .before .before .before .before .before .before .before .before .before .before .pre .1 .0)) (now (g .b)) _ _ _ (c .before .before .before .before .before .before .before .pick .ensures) (c .before .before .before .before .before .before .pick2 .ensures)
-          (sym (c .before .before .before .before .before .is-zero .ensures) ∙ c .before .before .before .before .if1 .taken) (c .before .before .clear .ensures),
-      lowest-none _ (g .m) (λ i h. rw (sym (c .before .before .before .before .before .is-zero .ensures) ∙ c .before .before .before .before .if1 .taken)),
-    )
+    let s = c .before .before .before .before .before .before .before .before .before .before in
+    let g = s .args in
+    all-cleared (g .left) (g .down) (g .ld) (g .m) (g .lines) (g .diag) (g .alpha) (entryOf (opForm (g .t)) (now (g .a)) (g .lda)) (some-ld (g .left) (g .ld) (g .m) (g .lines) _ (omega (arith, s .pre)) (omega (arith, s .pre)) (s .pre .1 .0)) (now (g .b)) _ _ _ (c .before .before .before .before .before .before .before .pick .ensures) (c .before .before .before .before .before .before .pick2 .ensures)
+    (sym (c .before .before .before .before .before .is-zero .ensures) ∙ c .before .before .before .before .if1 .taken) (c .before .before .clear .ensures)
 
 factor-requires : tie.Need-factor-requires
 factor-requires c κs = search needs
 
 scale-requires : tie.Need-scale-requires
 scale-requires c κs =
-    let g = c .before .before .before .before .before .before .before .before .args in
-    let some = (some-ld (g .left) (g .ld) (g .m) (g .lines) _ (omega (arith, c .before .before .before .before .before .before .before .before .pre)) (omega (arith, c .before .before .before .before .before .before .before .before .pre)) (c .before .before .before .before .before .before .before .before .pre .1 .0)) in
-    rw (c .before .before .before .before .before .pick .ensures, c .before .before .before .before .pick2 .ensures) (some, c .before .before .before .before .before .before .before .before .pre .1 .0 .0, c .before .before .before .before .before .before .before .before .pre .1 .0 .1)
+    let s = c .before .before .before .before .before .before .before .before in
+    let g = s .args in
+    rw (c .before .before .before .before .before .pick .ensures, c .before .before .before .before .pick2 .ensures) (some-ld (g .left) (g .ld) (g .m) (g .lines) _ (omega (arith, s .pre)) (omega (arith, s .pre)) (s .pre .1 .0), s .pre .1 .0 .0, s .pre .1 .0 .1)
 
-solve-requires : tie.Need-solve-requires
-solve-requires c κs = (omega arith, (omega (arith, c .before .before .before .before .before .before .before .before .before .before .before .before .pre .1 .0, c .before .before .before .scale .kept), c .before .before .before .before .before .before .before .before .before .before .before .before .pre .1 .1 (sym (c .before .before .before .before .before .before .before .is-zero .ensures) ∙ c .before .before .before .before .before .before .if1 .left)))
+tiny-requires : tie.Need-tiny-requires
+tiny-requires c κs = search needs
+
+solve-elements-requires : tie.Need-solve-elements-requires
+solve-elements-requires c κs =
+    let v = c .before .before .before .before .before in
+    let s = v .before .before .before .before .before .before .before .before .before in
+    (omega (arith, s .pre .0), (omega (arith, s .pre .1 .0, v .scale .kept), s .pre .1 .1 (sym (v .before .before .before .before .is-zero .ensures) ∙ v .before .before .before .if1 .left)))
 
 same-length-2 : tie.Need-same-length-2
 same-length-2 c = search needs
 
 returns-2 : tie.Need-returns-2
 returns-2 c =
-    let g = c .before .before .before .before .before .before .before .before .before .before .before .before .before .before .before .args in (
-      all-done (g .left) (g .down) (g .ld) (g .m) (g .lines) (g .diag) (g .alpha) (entryOf (opForm (g .t)) (now (g .a)) (g .lda)) (some-ld (g .left) (g .ld) (g .m) (g .lines) _ (omega (arith, c .before .before .before .before .before .before .before .before .before .before .before .before .before .before .before .pre)) (omega (arith, c .before .before .before .before .before .before .before .before .before .before .before .before .before .before .before .pre)) (c .before .before .before .before .before .before .before .before .before .before .before .before .before .before .before .pre .1 .0)) (now (g .b)) _ _ _ (c .before .before .before .before .before .before .before .before .before .before .before .before .pick .ensures) (c .before .before .before .before .before .before .before .before .before .before .before .pick2 .ensures)
-          (sym (c .before .before .before .before .before .before .before .before .before .before .is-zero .ensures) ∙ c .before .before .before .before .before .before .before .before .before .if1 .left) _ _ (c .before .before .before .before .before .before .before .factor .ensures) (c .before .before .before .before .before .before .scale .ensures) (c .before .before .solve .ensures .0),
-      rw (sym (c .before .before .before .before .before .before .before .before .before .before .is-zero .ensures) ∙ c .before .before .before .before .before .before .before .before .before .if1 .left) (c .before .before .solve .ensures .1),
-    )
+    let v = c .before .before .before .before .before .before .before .before in
+    let s = v .before .before .before .before .before .before .before .before .before in
+    let g = s .args in
+    all-done (g .left) (g .down) (g .ld) (g .m) (g .lines) (g .diag) (g .alpha) (entryOf (opForm (g .t)) (now (g .a)) (g .lda)) (some-ld (g .left) (g .ld) (g .m) (g .lines) _ (omega (arith, s .pre)) (omega (arith, s .pre)) (s .pre .1 .0)) (now (g .b)) _ _ _ (v .before .before .before .before .before .before .pick .ensures) (v .before .before .before .before .before .pick2 .ensures)
+    (sym (v .before .before .before .before .is-zero .ensures) ∙ v .before .before .before .if1 .left) _ _ _ (v .before .factor .ensures) (v .scale .ensures) (c .before .before .solve-elements .ensures)
+
+solve-requires : tie.Need-solve-requires
+solve-requires c κs =
+    let v = c .before .before .before .before .before in
+    let s = v .before .before .before .before .before .before .before .before .before in
+    (omega (arith, s .pre .0), (omega (arith, s .pre .1 .0, v .scale .kept), s .pre .1 .1 (sym (v .before .before .before .before .is-zero .ensures) ∙ v .before .before .before .if1 .left)))
+
+same-length-3 : tie.Need-same-length-3
+same-length-3 c = search needs
+
+returns-3 : tie.Need-returns-3
+returns-3 c =
+    let v = c .before .before .before .before .before .before .before .before in
+    let s = v .before .before .before .before .before .before .before .before .before in
+    let g = s .args in
+    all-done (g .left) (g .down) (g .ld) (g .m) (g .lines) (g .diag) (g .alpha) (entryOf (opForm (g .t)) (now (g .a)) (g .lda)) (some-ld (g .left) (g .ld) (g .m) (g .lines) _ (omega (arith, s .pre)) (omega (arith, s .pre)) (s .pre .1 .0)) (now (g .b)) _ _ _ (v .before .before .before .before .before .before .pick .ensures) (v .before .before .before .before .before .pick2 .ensures)
+    (sym (v .before .before .before .before .is-zero .ensures) ∙ v .before .before .before .if1 .left) _ _ _ (v .before .factor .ensures) (v .scale .ensures) (c .before .before .solve .ensures)
 
 pub solve-lines-spec : {M : Type 1} → statement M
 solve-lines-spec =
@@ -73,6 +94,10 @@ solve-lines-spec =
     returns
     factor-requires
     scale-requires
-    solve-requires
+    tiny-requires
+    solve-elements-requires
     same-length-2
-    returns-2)
+    returns-2
+    solve-requires
+    same-length-3
+    returns-3)

@@ -11,7 +11,7 @@ use Rattle.forms.specs.Forms.{opForm}
 use Rattle.lines.specs.Lines.{Room}
 use Rattle.lines.proofs.GridLaws.{some-ld}
 use Rattle.trsm.specs.Solve.{front, Step}
-use Rattle.trsm.proofs.StepLaws.{minus-one, block-inside, terms-more, terms-done}
+use Rattle.trsm.proofs.StepLaws.{minus-one, term-inside, terms-more, terms-done}
 use native.Mathlib.Omega.{arith}
 use borrow.Author.Needs.{needs}
 use Rattle.trsm.proofs.update_rest.Statement.{statement}
@@ -80,7 +80,7 @@ add-terms-requires c κs =
       (omega arith, omega arith, omega (arith, turn (c .before .before .before)), λ e. let w = c .before .before .before .before .before .before .before .before .before .before .before .reach .ensures .0 e in omega (arith, w), omega arith, omega arith, omega arith, omega arith, omega arith, omega arith),
       (
         subst (λ (k : ℕ). Room (g .left) (g .ld) (g .m) (g .lines) k) (sym (c .before .before .before .before .before .loop .inv .2)) (c .before .before .before .before .before .before .before .before .before .before .before .before .before .before .before .pre .1 .0),
-        block-inside (g .left) (g .t) (g .lda) _ (g .m) _ _ _ _ (c .before .before .before .before .before .before .before .before .before .before .before .before .before .before .before .pre .1 .1) (omega arith) (omega arith),
+        λ q p hq hp. term-inside (g .left) (g .t) (g .lda) _ (g .m) _ _ (c .before .before .before .before .before .before .before .before .before .before .before .before .before .before .before .pre .1 .1) (omega arith) (omega arith),
       ),
     )
 

@@ -18,8 +18,8 @@ is-mirrored-requires-2 c κs = search needs
 returns-2 : tie.Need-returns-2
 returns-2 c = λ z. absurd (true≢false (sym z))
 
-within-requires : tie.Need-within-requires
-within-requires c κs = search needs
+tiny-requires : tie.Need-tiny-requires
+tiny-requires c κs = search needs
 
 returns-3 : tie.Need-returns-3
 returns-3 c = λ z. (sym (c .before .before .before .before .is-mirrored .ensures) ∙ c .before .before .before .if1 .left, sym (c .before .before .is-mirrored2 .ensures) ∙ c .before .if2 .left)
@@ -32,5 +32,5 @@ is-tiny-triangle-spec =
     returns
     is-mirrored-requires-2
     returns-2
-    within-requires
+    tiny-requires
     returns-3)

@@ -18,22 +18,13 @@ returns : tie.Need-returns
 returns c = search needs
 
 blocked-requires : tie.Need-blocked-requires
-blocked-requires c κs = (omega arith, c .before .before .before .before .before .before .before .pre .1)
+blocked-requires c κs = search needs
 
 same-length-2 : tie.Need-same-length-2
 same-length-2 c = search needs
 
 returns-2 : tie.Need-returns-2
 returns-2 c = search needs
-
-blocked-requires-2 : tie.Need-blocked-requires-2
-blocked-requires-2 c κs = search needs
-
-same-length-3 : tie.Need-same-length-3
-same-length-3 c = search needs
-
-returns-3 : tie.Need-returns-3
-returns-3 c = search needs
 
 pub triangle-spec : {M : Type 1} → statement M
 triangle-spec =
@@ -45,7 +36,4 @@ triangle-spec =
     returns
     blocked-requires
     same-length-2
-    returns-2
-    blocked-requires-2
-    same-length-3
-    returns-3)
+    returns-2)

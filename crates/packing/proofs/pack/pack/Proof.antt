@@ -18,6 +18,7 @@ plain-requires c κs = (
   omega arith,
   omega arith,
   omega arith,
+  c .before .before .before .before .before .before .pre .4,
   c .before .before .before .before .before .before .pre .5,
   λ y x hy hx. omega (arith, c .before .before .before .before .before .before .pre .6 y x hy hx, c .before .before .before .way-of .ensures .columns (c .before .enum-told .given .1) (c .before .before .before .before .before .before .args .ld) y x hy hx),
 )
@@ -29,8 +30,8 @@ tiles-requires : tie.Need-tiles-requires
 tiles-requires c κs = (
   omega arith,
   omega arith,
-  omega arith,
   c .before .before .before .before .before .before .pre .4,
+  c .before .before .before .before .before .before .pre .5,
   λ y x hy hx. omega (arith, c .before .before .before .before .before .before .pre .6 y x hy hx, c .before .before .before .way-of .ensures .rows (c .before .enum-told2 .given .1) (c .before .before .before .before .before .before .args .ld) y x hy hx),
 )
 

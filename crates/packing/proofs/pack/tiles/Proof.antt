@@ -12,15 +12,16 @@ use Rattle.arrays.proofs.RegionLaws.{region-no-columns}
 use Rattle.arrays.proofs.UpdateLaws.{length-update}
 use Rattle.floats.specs.Array.{at}
 use Rattle.packing.specs.Factor.{along}
+use Rattle.packing.proofs.FactorLaws.{along-on, fewer, later}
 use Rattle.packing.proofs.PackLaws.{lines-more}
 use Rattle.packing.proofs.pack.tiles.Statement.{statement}
 use Rattle.packing.proofs.pack.tiles.Tie as tie
 
 abbrev Inv-loop : tie.InvT-loop
-Inv-loop dest₀ ny nx a ld i down j x₀ dest x = (x ≤ nx) × (length dest ≡ length dest₀) × (dest ≡ update (region 64 ny x (λ y x _. at a (along down i y * ld + (j + x)))) dest₀)
+Inv-loop dest₀ ny nx a ld i down j across x₀ dest x = (x ≤ nx) × (length dest ≡ length dest₀) × (dest ≡ update (region 64 ny x (λ y x _. at a (along down i y * ld + along across j x))) dest₀)
 
 abbrev μ-loop : tie.MeasureT-loop
-μ-loop dest₀ ny nx a ld i down j x₀ dest x = nx - x
+μ-loop dest₀ ny nx a ld i down j across x₀ dest x = nx - x
 
 loop-holds : tie.Need-loop-holds Inv-loop μ-loop
 loop-holds c = (omega arith, refl, region-no-columns _ _ _ _)
@@ -30,6 +31,9 @@ add-loop c = omega arith
 
 mul-to : tie.Need-mul-to Inv-loop μ-loop
 mul-to c = omega arith
+
+step-requires : tie.Need-step-requires Inv-loop μ-loop
+step-requires c κs = fewer (c .before .before .before .before .args .nx) _ (omega arith) (c .before .before .before .before .pre .3)
 
 mul-transposed : tie.Need-mul-transposed Inv-loop μ-loop
 mul-transposed c = omega arith
@@ -43,11 +47,15 @@ part-transposed-start c = omega arith
 part-transposed-end : tie.Need-part-transposed-end Inv-loop μ-loop
 part-transposed-end c = omega arith
 
-add-transposed : tie.Need-add-transposed Inv-loop μ-loop
-add-transposed c = omega (arith, c .before .before .before .before .before .pre .4 0 (c .before .before .loop .x) (omega arith) (omega arith))
-
 transposed-requires : tie.Need-transposed-requires Inv-loop μ-loop
-transposed-requires c κs = (omega arith, omega arith, simp tail-length (omega arith), c .before .before .before .before .before .pre .3, λ y x hy hx. omega (arith, c .before .before .before .before .before .pre .4 y (c .before .before .loop .x + x) hy (omega arith)))
+transposed-requires c κs = (
+  omega arith,
+  omega arith,
+  simp tail-length (omega arith),
+  c .before .before .before .before .before .before .pre .2,
+  later _ _ (c .before .step .ensures) (fewer (c .before .before .before .before .before .before .args .nx) _ (omega arith) (c .before .before .before .before .before .before .pre .3)),
+  λ y x hy hx. rw (c .before .step .ensures, along-on) (c .before .before .before .before .before .before .pre .4 y (c .before .before .before .loop .x + x) hy (omega arith)),
+)
 
 add-x : tie.Need-add-x Inv-loop μ-loop
 add-x c = omega arith
@@ -57,7 +65,7 @@ loop-less c = search needs
 
 loop-again : tie.Need-loop-again Inv-loop μ-loop
 loop-again c =
-    let e = lines-more (now (c .before .before .before .before .before .before .before .before .args .a)) (c .before .before .before .before .before .before .before .before .args .down) (c .before .before .before .before .before .before .before .before .args .i) (c .before .before .before .before .before .before .before .before .args .ld) (c .before .before .before .before .before .before .before .before .args .j) _ (c .before .before .before .before .before .loop .x) 8 _ _ _ (omega arith) (omega arith) (c .before .before .before .before .before .loop .inv .2) (c .before .before .transposed .ensures) in
+    let e = lines-more (now (c .before .before .before .before .before .before .before .before .before .args .a)) (c .before .before .before .before .before .before .before .before .before .args .down) (c .before .before .before .before .before .before .before .before .before .args .across) (c .before .before .before .before .before .before .before .before .before .args .i) (c .before .before .before .before .before .before .before .before .before .args .ld) (c .before .before .before .before .before .before .before .before .before .args .j) _ (c .before .before .before .before .before .before .loop .x) 8 _ _ _ _ (omega arith) (omega arith) (c .before .before .before .before .step .ensures) (c .before .before .before .before .before .before .loop .inv .2) (c .before .before .transposed .ensures) in
     (omega arith, ap length e ∙ length-update _ _, e)
 
 same-length : tie.Need-same-length Inv-loop μ-loop
@@ -68,6 +76,9 @@ returns c = let e : c .before .before .loop .x ≡ c .before .before .before .be
 
 mul-last : tie.Need-mul-last Inv-loop μ-loop
 mul-last c = omega arith
+
+step-requires-2 : tie.Need-step-requires-2 Inv-loop μ-loop
+step-requires-2 c κs = fewer (c .before .before .before .before .before .args .nx) _ (omega arith) (c .before .before .before .before .before .pre .3)
 
 mul-transposed-2 : tie.Need-mul-transposed-2 Inv-loop μ-loop
 mul-transposed-2 c = omega arith
@@ -84,19 +95,23 @@ part-transposed-end-2 c = omega arith
 sub-transposed-3 : tie.Need-sub-transposed-3 Inv-loop μ-loop
 sub-transposed-3 c = omega arith
 
-add-transposed-2 : tie.Need-add-transposed-2 Inv-loop μ-loop
-add-transposed-2 c = omega (arith, c .before .before .before .before .before .before .pre .4 0 (c .before .before .before .loop .x) (omega arith) (omega arith))
-
 transposed-requires-2 : tie.Need-transposed-requires-2 Inv-loop μ-loop
-transposed-requires-2 c κs = (omega arith, omega arith, simp tail-length (omega arith), c .before .before .before .before .before .before .pre .3, λ y x hy hx. omega (arith, c .before .before .before .before .before .before .pre .4 y (c .before .before .before .loop .x + x) hy (omega arith)))
+transposed-requires-2 c κs = (
+  omega arith,
+  omega arith,
+  simp tail-length (omega arith),
+  c .before .before .before .before .before .before .before .pre .2,
+  later _ _ (c .before .step2 .ensures) (fewer (c .before .before .before .before .before .before .before .args .nx) _ (omega arith) (c .before .before .before .before .before .before .before .pre .3)),
+  λ y x hy hx. rw (c .before .step2 .ensures, along-on) (c .before .before .before .before .before .before .before .pre .4 y (c .before .before .before .before .loop .x + x) hy (omega arith)),
+)
 
 same-length-2 : tie.Need-same-length-2 Inv-loop μ-loop
 same-length-2 c = omega arith
 
 returns-2 : tie.Need-returns-2 Inv-loop μ-loop
 returns-2 c =
-    let e : c .before .before .before .before .before .before .loop .x + (c .before .before .before .before .before .before .before .before .before .args .nx - c .before .before .before .before .before .before .loop .x) ≡ c .before .before .before .before .before .before .before .before .before .args .nx = omega arith in
-    rw e at (lines-more (now (c .before .before .before .before .before .before .before .before .before .args .a)) (c .before .before .before .before .before .before .before .before .before .args .down) (c .before .before .before .before .before .before .before .before .before .args .i) (c .before .before .before .before .before .before .before .before .before .args .ld) (c .before .before .before .before .before .before .before .before .before .args .j) _ (c .before .before .before .before .before .before .loop .x) (c .before .before .before .before .before .before .before .before .before .args .nx - c .before .before .before .before .before .before .loop .x) _ _ _ (omega arith) (omega arith) (c .before .before .before .before .before .before .loop .inv .2) (c .before .before .transposed2 .ensures))
+    let e : c .before .before .before .before .before .before .before .loop .x + (c .before .before .before .before .before .before .before .before .before .before .args .nx - c .before .before .before .before .before .before .before .loop .x) ≡ c .before .before .before .before .before .before .before .before .before .before .args .nx = omega arith in
+    rw e at (lines-more (now (c .before .before .before .before .before .before .before .before .before .before .args .a)) (c .before .before .before .before .before .before .before .before .before .before .args .down) (c .before .before .before .before .before .before .before .before .before .before .args .across) (c .before .before .before .before .before .before .before .before .before .before .args .i) (c .before .before .before .before .before .before .before .before .before .before .args .ld) (c .before .before .before .before .before .before .before .before .before .before .args .j) _ (c .before .before .before .before .before .before .before .loop .x) (c .before .before .before .before .before .before .before .before .before .before .args .nx - c .before .before .before .before .before .before .before .loop .x) _ _ _ _ (omega arith) (omega arith) (c .before .before .before .before .step2 .ensures) (c .before .before .before .before .before .before .before .loop .inv .2) (c .before .before .transposed2 .ensures))
 
 pub tiles-spec : {M : Type 1} → statement M
 tiles-spec =
@@ -107,11 +122,11 @@ tiles-spec =
     loop-holds
     add-loop
     mul-to
+    step-requires
     mul-transposed
     sub-transposed
     part-transposed-start
     part-transposed-end
-    add-transposed
     transposed-requires
     add-x
     loop-less
@@ -119,12 +134,12 @@ tiles-spec =
     same-length
     returns
     mul-last
+    step-requires-2
     mul-transposed-2
     sub-transposed-2
     part-transposed-start-2
     part-transposed-end-2
     sub-transposed-3
-    add-transposed-2
     transposed-requires-2
     same-length-2
     returns-2)

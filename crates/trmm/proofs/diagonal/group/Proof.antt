@@ -11,8 +11,8 @@ use Rattle.trmm.proofs.diagonal.group.Tie as tie
 
 -- room for the terms after the group
 rest-room : (n j h lines x y : ℕ) → j + h ≤ n → n ≤ 64 → lines ≤ 64 → 4096 ≤ x → 4096 ≤ y
-    → (lines ≤ 64) × (h ≤ 64) × (n - (j + h) ≤ 64) × ((n - (j + h)) * 64 + lines ≤ x - (j + h) * 64 + 64) × (h * 64 + (n - (j + h)) ≤ y - (j * 64 + (j + h)) + 64)
-rest-room n j h lines x y fit few short hx hy = (omega arith, omega arith, omega arith, omega arith, omega arith)
+    → (lines ≤ 64) × (n - (j + h) ≤ 64) × ((n - (j + h)) * 64 + lines ≤ x - (j + h) * 64 + 64) × (h * 64 + (n - (j + h)) ≤ y - (j * 64 + (j + h)) + 64)
+rest-room n j h lines x y fit few short hx hy = (omega arith, omega arith, omega arith, omega arith)
 
 mul-x : tie.Need-mul-x
 mul-x c = search needs
