@@ -4,9 +4,9 @@
 #
 # The compiler compiles the module with these words for x86-64, x86-64-v3 and x86-64-v4, with two things changed, neither of which decides what is computed: its
 # buffers start at a cache line, and it is said which functions are inlined. Without these changes, what it makes for x86-64 must be the archive's object, byte
-# for byte. A build counts if it multiplies in registers as wide as its processors have and has no fused multiply-add, which rounds once where the definitions
-# round twice. Its functions get names of their own, and a section of it has the module's digest; the digests are compared in the finished library. The names
-# that the archive exports are those of the library: choice.c makes a jump of each.
+# for byte. A build counts if its product of packed blocks multiplies in registers as wide as its processors have and it has no fused multiply-add, which rounds
+# once where the definitions round twice. Its functions get names of their own, and a section of it has the module's digest; the digests are compared in the
+# finished library. The names that the archive exports are those of the library: choice.c makes a jump of each.
 set -euo pipefail
 here=$(cd "$(dirname "$0")" && pwd)
 in=$(cd "$1" && pwd) out=$(cd "$2" && pwd)
@@ -72,7 +72,8 @@ if [ -f "$in/words" ] && once -march=x86-64 && once '.*\.bc' && once '.*\.o'; th
     for cpu in x86-64 x86-64-v3 x86-64-v4; do
         compile $cpu "$PWD/prepared.ll" compiled-$cpu.o
         objdump -d --no-show-raw-insn compiled-$cpu.o > $cpu.txt
-        grep -q "mulpd .*%${registers[$cpu]}" $cpu.txt || fail "the build for $cpu does not multiply in ${registers[$cpu]} registers"
+        sed -n '/<blocks::block::block>:$/,/^$/p' $cpu.txt > loops.txt
+        grep -q "mulpd .*%${registers[$cpu]}" loops.txt || fail "the build for $cpu does not multiply in ${registers[$cpu]} registers"
         ! grep -m 3 -E 'vfn?m(add|sub)' $cpu.txt >&2 || fail "the build for $cpu has fused operations, see above"
         sha256sum < "$in/module.bc" | cut -d ' ' -f 1 > digest
         add $cpu compiled-$cpu.o --add-section .thamrunlek.module=digest

@@ -24,10 +24,10 @@ says() {
     passed=$((passed + 1))
 }
 
-# A module with a multiplication, and a fused one.
+# A module whose product of packed blocks has a multiplication, and a fused one.
 fused='target triple = "x86_64-unknown-linux-gnu"
 declare <4 x double> @llvm.fma.v4f64(<4 x double>, <4 x double>, <4 x double>)
-define <4 x double> @tl_fused(<4 x double> %x, <4 x double> %y) {
+define <4 x double> @"blocks::block::block"(<4 x double> %x, <4 x double> %y) {
     %square = fmul <4 x double> %x, %x
     %sum = call <4 x double> @llvm.fma.v4f64(<4 x double> %square, <4 x double> %x, <4 x double> %y)
     ret <4 x double> %sum
@@ -43,11 +43,16 @@ says $library x86-64-v5 "thamrunlek: THAMRUNLEK_CPU is \"x86-64-v5\", which this
 $widest"
 
 if [ -f "$work/module.bc" ]; then
-    grep -q 'x i8\], align 64$' "$work/builds/aligned.ll" || fail "no buffer of the library starts at a cache line"
-    passed=$((passed + 1))
+    module=$work/builds/module.ll prepared=$work/builds/prepared.ll
+    grep -q 'x i8\], align 64$' "$prepared" || fail "no buffer of the library starts at a cache line"
+    grep -q '@"arguments::check".* alwaysinline #' "$prepared" || fail "the argument check is not inlined"
+    grep -q '@"kernel::panels::blocked".* noinline #' "$prepared" || fail "a function with buffers may be inlined"
+    sed -E 's/ (no|always)inline( #[0-9]+ \{)$/\2/; s/(x i8\]), align 64$/\1, align 8/' "$prepared" | cmp -s - "$module" || fail "more of the module is changed than its marks"
+    passed=$((passed + 4))
     copy; echo "$fused" > "$spoiled/module.bc"; refused 'has fused operations'
     copy; printf '%s\n' -fno-vectorize -fno-slp-vectorize >> "$spoiled/words"; refused 'does not multiply in xmm registers'
-    copy; printf '%s\n' -mllvm -vectorize-loops=false >> "$spoiled/words"; refused 'does not multiply in ymm registers'
+    copy; printf '%s\n' -mllvm -vectorize-loops=false >> "$spoiled/words"; refused 'does not multiply in xmm registers'
+    copy; printf '%s\n' -mllvm -force-vector-width=2 >> "$spoiled/words"; refused 'does not multiply in ymm registers'
     copy; (cd "$spoiled"; ar x libexports.a; objcopy -R .comment exports.o; ar rcs libexports.a exports.o); refused "is not the archive's"
     copy; sed -i 's/^-march=x86-64$/-march=native/' "$spoiled/words"
     linked | grep -q 'there is one build, for x86-64' || fail "link.sh does not make do with the archive"
