@@ -1,4 +1,4 @@
-// The product of two packed blocks, at most 64 each way. In u term q, row i stands at q * 64 + i, in t column j, term q at j * 64 + q.
+// The product of two packed blocks, of at most 64 rows and 64 terms. In u term q, row i stands at q * 64 + i, in t column j, term q at j * 64 + q.
 ghost use mathlib.Core.Path.{_≡_};
 ghost use Prim.Native.Nat.{_+_, _*_, _≤_, _<_};
 ghost use lib.ListN.{length};
