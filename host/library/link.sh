@@ -30,11 +30,12 @@ add() {
 }
 # Compiles a module: compile CPU MODULE OBJECT. Wide builds get words for speed. Gathered loads and stores, and vectors of more than two elements that are put
 # together one by one, are slow in tiny products. Loops are short beside a vector: how far they are unrolled was tried out, and their rest goes four by four.
+# They start at multiples of 32 bytes, so that it matters less where their code stands.
 declare -A unrolled=([x86-64-v3]=1 [x86-64-v4]=2)
 compile() {
     local word words=(-ffp-contract=off)
     [ $1 = x86-64 ] || words+=(-mno-gather -mno-scatter -mllvm -slp-max-reg-size=128)
-    [ $1 = x86-64 ] || words+=(-mllvm -force-vector-interleave=${unrolled[$1]} -mllvm -epilogue-vectorization-force-VF=4)
+    [ $1 = x86-64 ] || words+=(-mllvm -force-vector-interleave=${unrolled[$1]} -mllvm -epilogue-vectorization-force-VF=4 -falign-loops=32)
     while IFS= read -r word; do
         case $word in
         -march=x86-64) word=-march=$1 ;;
@@ -47,8 +48,8 @@ compile() {
 }
 # Inlined are the crates, modules and functions on the way from a call to the loops, so that each call has a check and a way of its own. Not inlined are functions
 # that have buffers, so that a tiny call has none of them in its frame. The others are left to the compiler.
-inlined='definitions packing::mirror packing::pack::transposed arguments start forms kernel lines elements gemm rank_update::syrk_strip
-    rank_update::syr2k_strip rank_update::add_product rank_update::add_columns trmm trsm strips blas'
+inlined='definitions packing::mirror packing::pack::transposed arguments start forms kernel triangles lines elements gemm rank_update::syrk_strip
+    rank_update::syr2k_strip trmm_diagonal trmm trsm_diagonal trsm strips blas'
 once() { [ "$(grep -cxe "$1" "$in/words")" = 1 ]; }
 if [ -f "$in/words" ] && once -march=x86-64 && once '.*\.bc' && once '.*\.o'; then
     "$in/clang" -x ir -S -emit-llvm -O0 -Xclang -disable-llvm-passes "$in/module.bc" -o module.ll

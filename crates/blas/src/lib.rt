@@ -15,7 +15,7 @@ use definitions::Routine;
 use definitions::Scalar;
 use definitions::SolveEnd;
 
-// How many columns, or rows, of a call go through its routine at once: four strips of w for a product, which packs A once for all of them.
+// How many columns, or rows, of a call go through its routine at once: four strips of w where that packs a block of A once for all of them.
 fn at_once(routine: Routine, w: usize) -> usize
     requires { ⌜ (0 < w) × (w ≤ 64) ⌝ }
     ensures { λ r. ⌜ (0 < r) × (r ≤ widest routine) ⌝ }
@@ -23,8 +23,8 @@ fn at_once(routine: Routine, w: usize) -> usize
     match routine {
         Routine::Gemm => 4 * w,
         Routine::Symm => 4 * w,
-        Routine::Syrk => w,
-        Routine::Syr2k => w,
+        Routine::Syrk => 4 * w,
+        Routine::Syr2k => 4 * w,
         Routine::Trmm => w,
         Routine::Trsm => w,
     }

@@ -2,4 +2,3 @@ pub mod MaskLaws
 pub mod TrapezoidLaws
 pub mod PanelLaws
 pub mod DirectLaws
-pub mod TriangleLaws

@@ -1,7 +1,7 @@
 -- Masks: a part that is lent and comes back adds the entries of its own mask to those that are done.
 -- Assumes nothing.
 use mathlib.Core.Bool.{Bool, true, false, _&&_, and-false}
-use mathlib.Core.Path.{_≡_, refl, sym, _∙_}
+use mathlib.Core.Path.{_≡_, refl, sym, ap, _∙_}
 use mathlib.Core.Logic.{⊎-elim, _⊎_}
 use mathlib.Core.List.{List}
 use Prim.Native.Nat.{ℕ, _+_, _-_, _*_, _<_, _≤_}
@@ -14,7 +14,7 @@ use Rattle.arrays.specs.Choice.{if_then_else_}
 use Rattle.arrays.specs.Update.{EntryMap, Mask, update, entries, only, shifted}
 use Rattle.arrays.proofs.Tests.{and-left, and-right}
 use Rattle.arrays.proofs.UpdateLaws.{lt-or-ge}
-use Rattle.arrays.proofs.EntryLaws.{entries-same, entries-keep, only-out, only-same, only-join}
+use Rattle.arrays.proofs.EntryLaws.{entries-same, entries-keep, only-out, only-same, only-mask, only-join}
 use Rattle.arrays.proofs.PartLaws.{block-then}
 
 -- ---- a mask that is moved
@@ -68,14 +68,14 @@ module _ {A : Type 0} (d : A) (ld : ℕ) (pos : 0 < ld) where
   pub lent-mask : (i₀ j₀ a : ℕ) (before inner after : Mask) (f g : EntryMap A) (l m ys : List A) → i₀ ≤ ld → a ≡ j₀ * ld + i₀ → a ≤ length l
       → m ≡ update (entries ld (only before f)) l
       → ys ≡ update (entries ld (only inner g)) (take (length m - a) (drop a m))
-      → ((i j : ℕ) (x : A) → g i j x ≡ f (i₀ + i) (j₀ + j) x)
+      → ((i j : ℕ) → inner i j ≡ true → (x : A) → g i j x ≡ f (i₀ + i) (j₀ + j) x)
       → ((i j : ℕ) → ld ≤ i₀ + i → inner i j ≡ false)
       → ((i j : ℕ) → before i j ≡ true → moved i₀ j₀ inner i j ≡ false)
       → ((i j : ℕ) → after i j ≡ (if before i j then true else moved i₀ j₀ inner i j))
       → putMid a (length m - a) m ys ≡ update (entries ld (only after f)) l
   lent-mask i₀ j₀ a before inner after f g l m ys il ea al em ey same wide apart join =
       block-then d ld i₀ j₀ a (only before f) (only inner here) (only after f) l m ys pos il ea al em
-      (ey ∙ entries-same ld (take (length m - a) (drop a m)) pos (only inner g) (only inner here) (λ i j hi b x. only-same inner g i j x here (λ h. same i j x)))
+      (ey ∙ entries-same ld (take (length m - a) (drop a m)) pos (only inner g) (only inner here) (λ i j hi b x. only-same inner g i j x here (λ h. same i j h x)))
       (λ i j w x. only-out inner here i j x (wide i j w))
       (λ i j hi b x.
       shifted-only i₀ j₀ inner f i j (only before f i j x)
@@ -98,3 +98,15 @@ joined false false false p q r = refl
 pub apart : (a b : Bool) → (a ≡ true → b ≡ true → ⊥) → a ≡ true → b ≡ false
 apart a true h e = absurd (h e refl)
 apart a false h e = refl
+
+-- of two masks that make a third, the second has no entry
+pub mask-alone : {A : Type 0} (ld : ℕ) (pos : 0 < ld) (f : EntryMap A) (l : List A) (first second both : Mask)
+    → ((i j : ℕ) → both i j ≡ (if first i j then true else second i j)) → ((i j : ℕ) → second i j ≡ false)
+    → update (entries ld (only first f)) l ≡ update (entries ld (only both f)) l
+mask-alone ld pos f l first second both join none =
+    entries-same ld l pos _ _
+    (λ i j hi b x. only-mask first both f i j x (sym (join i j ∙ ap (λ (t : Bool). if first i j then true else t) (none i j) ∙ or-not (first i j))))
+  where
+    or-not : (b : Bool) → (if b then true else false) ≡ b
+    or-not true = refl
+    or-not false = refl

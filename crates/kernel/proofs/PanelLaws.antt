@@ -1,21 +1,23 @@
 -- Laws of a product by panels: what the packed buffers hold, a block of rows more, a panel of terms more.
 -- Assumes nothing.
 use mathlib.Core.Bool.{Bool, true, false}
-use mathlib.Core.Path.{_≡_, refl, ap, ap₂, _∙_}
+use mathlib.Core.Path.{_≡_, refl, sym, ap, ap₂, _∙_}
 use mathlib.Core.List.{List}
 use Prim.Native.Nat.{ℕ, _+_, _-_, _*_, _<_, _≤_}
 use native.Mathlib.Omega.{arith}
 use lib.ListN.{length, take, drop}
 use lib.Ieee.{Float, nan}
 use borrow.Rule.Slice.PartMut.{putMid}
-use Rattle.arrays.specs.Update.{update, region}
+use Rattle.arrays.specs.Update.{Mask, update, entries, only, box, region}
+use Rattle.arrays.proofs.EntryLaws.{entries-keep, only-keep, only-then}
 use Rattle.arrays.proofs.UpdateLaws.{at-update}
 use Rattle.arrays.proofs.PartLaws.{column-room}
-use Rattle.arrays.proofs.RegionLaws.{region-at, region-keep, region-same, region-then, region-rows}
+use Rattle.arrays.proofs.RegionLaws.{region-at, region-same, region-then, region-rows}
 use Rattle.floats.specs.Operations.{_⊗_}
 use Rattle.floats.specs.Array.{at}
 use Rattle.blocks.specs.Terms.{packed}
 use Rattle.kernel.specs.Product.{halfPacked, turn, fromRow, fromColumn, partly}
+use Rattle.kernel.proofs.TrapezoidLaws.{is-box}
 use Rattle.packing.specs.Factor.{Indices, Matrix, entryOf, along}
 use Rattle.packing.specs.declared.Form.{Form}
 use Rattle.packing.proofs.FactorLaws.{along-up}
@@ -68,24 +70,13 @@ pub panel-indices : (down : Bool) (k l n : ℕ) {l₀ : ℕ} → k < 18446744073
 panel-indices down k l n hk h b e =
     record { up = λ d. omega (arith, turn-up k l d, e); back = λ d. omega (arith, turn-down k l d, e) }
 
-module _ (alpha : Float) (A B : Matrix) (down : Bool) (k : ℕ) (ld rows cols : ℕ) (c₀ : List Float) where
-  pub partly-none : c₀ ≡ update (region ld rows cols (partly alpha A B down k 0)) c₀
-  unfolding partly
-  partly-none = region-keep ld rows cols (partly alpha A B down k 0) c₀ (λ i j hi hj e. accumulate-none _ _ e)
+-- ---- a panel of terms more, on a mask
 
-  -- a panel of n terms more: its right block is packed in t, and L has the left factor's terms in their order
-  pub panel-more : 0 < ld → (l n : ℕ) (t : List Float) (L : Matrix) (m r : List Float)
-      → m ≡ update (region ld rows cols (partly alpha A B down k l)) c₀
-      → r ≡ update (region ld rows cols (halfPacked n t L)) m
-      → ((q j : ℕ) → q < n → j < cols → at t (j * 64 + q) ≡ alpha ⊗ B (turn down k (l + q)) j)
-      → ((i q : ℕ) → L i q ≡ A i (turn down k (l + q)))
-      → r ≡ update (region ld rows cols (partly alpha A B down k (l + n))) c₀
-  unfolding partly halfPacked
-  panel-more pos l n t L m r em er et el =
-      region-then ld rows cols (partly alpha A B down k l) (halfPacked n t L) (partly alpha A B down k (l + n)) c₀ m r pos em er
-      (λ i j hi hj e.
-      accumulate-same _ _ _ _ n _ (λ q b. et q j b hj) (λ q b. el i q)
-      ∙ accumulate-split (λ q. alpha ⊗ B (turn down k q) j) (λ q. A i (turn down k q)) l n e)
+-- no terms yet
+pub masked-none : (mask : Mask) (alpha : Float) (A B : Matrix) (down : Bool) (k ld : ℕ) (c₀ : List Float)
+    → c₀ ≡ update (entries ld (only mask (partly alpha A B down k 0))) c₀
+unfolding partly
+masked-none mask alpha A B down k ld c₀ = sym (entries-keep ld _ c₀ (λ i j x. only-keep mask _ i j x (accumulate-none _ _ x)))
 
 -- the right block as it is packed and then scaled
 pub scaled : (alpha : Float) (n cols : ℕ) (M : Matrix) (t₀ t₁ t : List Float)
@@ -94,25 +85,37 @@ pub scaled : (alpha : Float) (n cols : ℕ) (M : Matrix) (t₀ t₁ t : List Flo
 scaled alpha n cols M t₀ t₁ t e₁ e =
     region-then 64 n cols (λ q j _. M q j) (λ q j x. alpha ⊗ x) (λ q j _. alpha ⊗ M q j) t₀ t₁ t (omega arith) e₁ e (λ i j hi hj x. refl)
 
-module _ (alpha : Float) (fa : Form) (a : List Float) (lda i₀ : ℕ) (fb : Form) (b : List Float) (ldb j₀ : ℕ) (down : Bool) (k ld rows cols : ℕ) where
-  A : Matrix
-  A = fromRow i₀ (entryOf fa a lda)
-
-  B : Matrix
-  B = fromColumn j₀ (entryOf fb b ldb)
-
-  -- a turn of the loop over the panels
-  pub panel-next : (l n l₀ : ℕ) (c₀ t₀ t₁ t m r : List Float) → 0 < ld → n ≤ 64 → cols * 64 ≤ length t₀ → l₀ ≡ turn down k l
-      → m ≡ update (region ld rows cols (partly alpha (fromRow i₀ (entryOf fa a lda)) (fromColumn j₀ (entryOf fb b ldb)) down k l)) c₀
+-- n terms more, whose right block is packed in t; the mask has at most `cols` columns
+module _ (mask : Mask) (cols : ℕ) (few : (i j : ℕ) → mask i j ≡ true → j < cols) (alpha : Float) (A : Matrix) (fb : Form) (b : List Float) (ldb j₀ : ℕ) (down : Bool) (k ld : ℕ) where
+  pub masked-next : (l n l₀ : ℕ) (c₀ t₀ t₁ t m r : List Float) → 0 < ld → n ≤ 64 → cols * 64 ≤ length t₀ → l₀ ≡ turn down k l
+      → m ≡ update (entries ld (only mask (partly alpha A (fromColumn j₀ (entryOf fb b ldb)) down k l))) c₀
       → t₁ ≡ update (region 64 n cols (λ y x _. entryOf fb b ldb (along down l₀ y) (along false j₀ x))) t₀
       → t ≡ update (region 64 n cols (λ q j x. alpha ⊗ x)) t₁
-      → r ≡ update (region ld rows cols (halfPacked n t (λ i q. entryOf fa a lda (i₀ + i) (along down l₀ q)))) m
-      → r ≡ update (region ld rows cols (partly alpha (fromRow i₀ (entryOf fa a lda)) (fromColumn j₀ (entryOf fb b ldb)) down k (l + n))) c₀
-  unfolding A B
-  panel-next l n l₀ c₀ t₀ t₁ t m r pos hn hl e em e₁ et er =
-      panel-more alpha A B down k ld rows cols c₀ pos l n t (λ i q. entryOf fa a lda (i₀ + i) (along down l₀ q)) m r em er
-      (λ q j hq hj.
+      → r ≡ update (entries ld (only mask (halfPacked n t (λ i q. A i (along down l₀ q))))) m
+      → r ≡ update (entries ld (only mask (partly alpha A (fromColumn j₀ (entryOf fb b ldb)) down k (l + n)))) c₀
+  unfolding partly halfPacked
+  masked-next l n l₀ c₀ t₀ t₁ t m r pos hn hl e em e₁ et er =
+      only-then ld mask _ _ _ c₀ m r pos em er
+      (λ i j h x.
+      accumulate-same _ _ _ _ n _
+      (λ q hq.
       held 64 n cols (λ q j. alpha ⊗ entryOf fb b ldb (along down l₀ q) (along false j₀ j)) t₀ t q j hn hl
-      (scaled alpha n cols (λ y x. entryOf fb b ldb (along down l₀ y) (along false j₀ x)) t₀ t₁ t e₁ et) hq hj
+      (scaled alpha n cols (λ y x. entryOf fb b ldb (along down l₀ y) (along false j₀ x)) t₀ t₁ t e₁ et) hq (few i j h)
       ∙ ap₂ (λ (x y : ℕ). alpha ⊗ entryOf fb b ldb x y) (turn-along down k l q e) (along-up j₀ j refl))
-      (λ i q. ap (λ (x : ℕ). entryOf fa a lda (i₀ + i) x) (turn-along down k l q e))
+      (λ q hq. ap (A i) (turn-along down k l q e))
+      ∙ accumulate-split (λ q. alpha ⊗ entryOf fb b ldb (turn down k q) (j₀ + j)) (λ q. A i (turn down k q)) l n x)
+
+-- the same in a rectangle
+module _ (alpha : Float) (A : Matrix) (fb : Form) (b : List Float) (ldb j₀ : ℕ) (down : Bool) (k ld rows cols : ℕ) where
+  pub partly-none : (c₀ : List Float) → c₀ ≡ update (region ld rows cols (partly alpha A (fromColumn j₀ (entryOf fb b ldb)) down k 0)) c₀
+  unfolding region
+  partly-none c₀ = masked-none (box rows cols) alpha A (fromColumn j₀ (entryOf fb b ldb)) down k ld c₀
+
+  pub panel-next : (l n l₀ : ℕ) (c₀ t₀ t₁ t m r : List Float) → 0 < ld → n ≤ 64 → cols * 64 ≤ length t₀ → l₀ ≡ turn down k l
+      → m ≡ update (region ld rows cols (partly alpha A (fromColumn j₀ (entryOf fb b ldb)) down k l)) c₀
+      → t₁ ≡ update (region 64 n cols (λ y x _. entryOf fb b ldb (along down l₀ y) (along false j₀ x))) t₀
+      → t ≡ update (region 64 n cols (λ q j x. alpha ⊗ x)) t₁
+      → r ≡ update (region ld rows cols (halfPacked n t (λ i q. A i (along down l₀ q)))) m
+      → r ≡ update (region ld rows cols (partly alpha A (fromColumn j₀ (entryOf fb b ldb)) down k (l + n))) c₀
+  unfolding region
+  panel-next = masked-next (box rows cols) cols (λ i j h. is-box rows cols i j h .1) alpha A fb b ldb j₀ down k ld

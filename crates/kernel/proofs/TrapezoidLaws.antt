@@ -16,18 +16,18 @@ use Rattle.arrays.specs.Choice.{if_then_else_}
 use Rattle.arrays.specs.Update.{EntryMap, update, below, entries, only, box, region}
 use Rattle.arrays.proofs.Tests.{and-left, and-right}
 use Rattle.arrays.proofs.UpdateLaws.{lt-or-ge, same-or-not, below-same}
-use Rattle.arrays.proofs.EntryLaws.{entries-same, only-mask, box-in, box-row-out, box-column-out}
+use Rattle.arrays.proofs.EntryLaws.{box-in, box-row-out, box-column-out}
 use Rattle.arrays.proofs.RegionLaws.{mask-column}
 use Rattle.kernel.specs.Product.{trapezoid, corner}
-use Rattle.kernel.proofs.MaskLaws.{moved, is-moved, moved-in, moved-out, joined, apart, lent-mask, nothing-done}
+use Rattle.kernel.proofs.MaskLaws.{moved, is-moved, moved-in, moved-out, joined, apart, lent-mask, nothing-done, mask-alone}
 
 -- ---- its entries
 
 pub record Within (lower : Bool) (from rows cols i j : ℕ) : Type 0 where
   pub row : i < rows
   pub column : j < cols
-  low : lower ≡ true → from + j ≤ i
-  up : lower ≡ false → i ≤ from + j
+  pub low : lower ≡ true → from + j ≤ i
+  pub up : lower ≡ false → i ≤ from + j
 
 pub is-box : (rows cols i j : ℕ) → box rows cols i j ≡ true → (i < rows) × (j < cols)
 unfolding box
@@ -43,12 +43,12 @@ module _ (from rows cols i j : ℕ) where
       let b = is-box rows cols i j (and-left (box rows cols i j) _ h) in
       record { row = b .0; column = b .1; low = λ e. absurd (true≢false (sym e)); up = λ e. leb-true _ _ (and-right (box rows cols i j) _ h) }
 
-  inside : (lower : Bool) → Within lower from rows cols i j → trapezoid lower from rows cols i j ≡ true
+  pub inside : (lower : Bool) → Within lower from rows cols i j → trapezoid lower from rows cols i j ≡ true
   unfolding trapezoid
   inside true w = rw (box-in rows cols i j (w .row) (w .column)) (le-leb (from + j) i (w .low refl))
   inside false w = rw (box-in rows cols i j (w .row) (w .column)) (le-leb i (from + j) (w .up refl))
 
-  row-out : (lower : Bool) → rows ≤ i → trapezoid lower from rows cols i j ≡ false
+  pub row-out : (lower : Bool) → rows ≤ i → trapezoid lower from rows cols i j ≡ false
   unfolding trapezoid
   row-out lower h = rw (box-row-out rows cols i j h)
 
@@ -106,7 +106,7 @@ pub columns-more : (lower : Bool) (F G : EntryMap Float) (ld from n j g h a : �
 columns-more lower F G ld from n j g h a l m ys eg pos fit ea al em ey same =
     lent-mask nan ld pos 0 j a (trapezoid lower from n j) (trapezoid lower g n h) (trapezoid lower from n (j + h)) F G l m ys
     (omega arith) (omega arith) al em ey
-    (λ i c x. same i c x ∙ ap (λ (p : ℕ). F p (j + c) x) (sym (zero-add i)))
+    (λ i c h x. same i c x ∙ ap (λ (p : ℕ). F p (j + c) x) (sym (zero-add i)))
     (λ i c w. row-out g n h i c lower (omega arith))
     (columns-apart lower from n j g h eg)
     (columns-join lower from n j g h eg)
@@ -245,7 +245,7 @@ module _ (n g h top rows : ℕ) (within-n : g + h ≤ n) where
     diagonal =
         lent-mask nan ld pos g 0 g (λ i j. false) (corner lower h h) (moved g 0 (corner lower h h)) _ _ l l d
         (omega arith) (omega arith) (omega arith) (nothing-done ld (λ i j. false) _ l (λ i j. refl)) ed
-        (λ i j x. same i j x ∙ ap (λ (c : ℕ). F (g + i) c x) (sym (zero-add j)))
+        (λ i j h x. same i j x ∙ ap (λ (c : ℕ). F (g + i) c x) (sym (zero-add j)))
         (λ i j w. row-out 0 h h i j lower (omega arith))
         (λ i j e. absurd (true≢false (sym e)))
         (λ i j. refl)
@@ -255,16 +255,8 @@ module _ (n g h top rows : ℕ) (within-n : g + h ≤ n) where
         → putMid g (length l - g) l d ≡ update (entries ld (only (trapezoid lower g n h) F)) l
     diagonal-alone z =
         diagonal
-        ∙ entries-same ld l pos _ _
-        (λ i j hi b x.
-        only-mask (moved g 0 (corner lower h h)) (trapezoid lower g n h) _ i j x
-        (sym (rest-join lower et er i j
-        ∙ ap (λ (t : Bool). if moved g 0 (corner lower h h) i j then true else t) (moved-out top 0 (box rows h) i j (box-row-out rows h _ _ (omega arith)))
-        ∙ or-not (moved g 0 (corner lower h h) i j))))
-      where
-        or-not : (b : Bool) → (if b then true else false) ≡ b
-        or-not true = refl
-        or-not false = refl
+        ∙ mask-alone ld pos F l (moved g 0 (corner lower h h)) (moved top 0 (box rows h)) (trapezoid lower g n h)
+        (rest-join lower et er) (λ i j. moved-out top 0 (box rows h) i j (box-row-out rows h _ _ (omega arith)))
 
     pub diagonal-and-rest : (G : EntryMap Float) (m ys : List Float) → m ≡ putMid g (length l - g) l d
         → ys ≡ update (region ld rows h G) (take (length m - top) (drop top m))
@@ -275,7 +267,7 @@ module _ (n g h top rows : ℕ) (within-n : g + h ≤ n) where
         let f = rest-fits lower et er in
         lent-mask nan ld pos top 0 top (moved g 0 (corner lower h h)) (box rows h) (trapezoid lower g n h) _ _ l m ys
         (omega arith) (omega arith) (omega arith) (em ∙ diagonal) ey
-        (λ i j x. there i j x ∙ ap (λ (c : ℕ). F (top + i) c x) (sym (zero-add j)))
+        (λ i j h x. there i j x ∙ ap (λ (c : ℕ). F (top + i) c x) (sym (zero-add j)))
         (λ i j w. box-row-out rows h i j (omega arith))
         (rest-apart lower et er)
         (rest-join lower et er)

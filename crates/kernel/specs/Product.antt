@@ -9,10 +9,9 @@
 --     trapezoid   the mask of a triangle, diagonal included, in the columns from `from` on: column j of the part is column from + j of the matrix, and
 --                 the part has the rows below `rows` and the columns below `cols`
 --     corner      the same from the matrix's first column on
---     passes      how many passes a walk over a diagonal block makes
 use mathlib.Core.Bool.{Bool, true, false, _&&_}
 use mathlib.Core.List.{List}
-use Prim.Native.Nat.{ℕ, _+_, _-_, _*_, _/_}
+use Prim.Native.Nat.{ℕ, _+_, _-_, _*_}
 use lib.Dec.{leb}
 use lib.Ieee.{Float}
 use Rattle.arrays.specs.Choice.{if_then_else_}
@@ -65,7 +64,3 @@ trapezoid lower from rows cols i j = box rows cols i j && (if lower then leb (fr
 
 abbrev pub corner : Bool → ℕ → ℕ → Mask
 corner lower rows cols = trapezoid lower 0 rows cols
-
--- "One walk over a diagonal block of order t then makes exactly t·(t+1)/2 passes" (document 02, K3).
-unfoldable pub passes : ℕ → ℕ
-passes t = t * (t + 1) / 2

@@ -8,7 +8,6 @@ ghost use Rattle.kernel.specs.Product.{fromRow, fromColumn, product};
 
 pub mod direct;
 pub mod panels;
-pub mod triangle;
 
 use packing::Form;
 

@@ -20,7 +20,7 @@ pub fn turn_of(down: bool, k: usize, q: usize) -> usize
 }
 
 // The terms of one panel, whose right block is packed in t: the left factor by blocks of r rows that are packed into u.
-fn sweep(
+pub fn sweep(
     c: &mut [f64],
     ld: usize,
     rows: usize,

@@ -141,7 +141,7 @@ fn add_right(
     x: &[f64],
     r: usize,
 )
-    requires { ⌜ (0 < n) × (n ≤ 64) × (0 < h) × (h ≤ 64) × (0 < lines) × (lines ≤ 64) × (y + h ≤ m) × (0 < r) × (r ≤ 64) × (4096 ≤ length (now x)) ⌝ }
+    requires { ⌜ (0 < n) × (n ≤ 64) × (0 < h) × (h ≤ 256) × (0 < lines) × (lines ≤ 64) × (y + h ≤ m) × (0 < r) × (r ≤ 64) × (4096 ≤ length (now x)) ⌝ }
     requires { ⌜ (lines ≤ ld) × (m * ld + lines ≤ length (now b) + ld) × ((q p : ℕ) → q < h → p < n → indexOf (opForm t) lda (x0 + p) (y + q) < length (now a)) ⌝ }
     ensures { λ _. ⌜ now (b .exit) ≡ update (grid false ld m lines (λ q l e. if within y h q then fold (λ e i. lineTerm false alpha (entryOf (opForm t) (now (a .entry)) lda) q e (x0 + turn down n i) (at (now (x .entry)) (cell false 64 (turn down n i) l))) n e else e)) (now (b .entry)) ⌝ }
 {
@@ -187,7 +187,7 @@ pub fn add_terms(
     x: &[f64],
     r: usize,
 )
-    requires { ⌜ (0 < n) × (n ≤ 64) × (0 < h) × (left ≡ false → h ≤ 64) × (0 < lines) × (lines ≤ 64) × (y + h ≤ m) × (0 < r) × (r ≤ 64) × (4096 ≤ length (now x)) ⌝ }
+    requires { ⌜ (0 < n) × (n ≤ 64) × (0 < h) × (left ≡ false → h ≤ 256) × (0 < lines) × (lines ≤ 64) × (y + h ≤ m) × (0 < r) × (r ≤ 64) × (4096 ≤ length (now x)) ⌝ }
     requires { ⌜ Room left ld m lines (length (now b)) ⌝ }
     requires { ⌜ ((q p : ℕ) → q < h → p < n → (if left then indexOf (opForm t) lda (y + q) (x0 + p) else indexOf (opForm t) lda (x0 + p) (y + q)) < length (now a)) ⌝ }
     ensures { λ _. ⌜ now (b .exit) ≡ update (grid left ld m lines (λ q l e. if within y h q then fold (λ e i. lineTerm left alpha (entryOf (opForm t) (now (a .entry)) lda) q e (x0 + turn down n i) (at (now (x .entry)) (cell left 64 (turn down n i) l))) n e else e)) (now (b .entry)) ⌝ }

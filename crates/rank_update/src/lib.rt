@@ -71,118 +71,6 @@ fn start_strip(call: Call, lower: bool, c: &mut [f64], from: usize, cols: usize)
     start_triangle(lower, c, ldc, n, cols, from, beta);
 }
 
-// The product in h columns of the triangle of order n, which are columns g to g + h - 1 of C: the diagonal block, and the rectangle below or above it.
-fn add_columns(
-    lower: bool,
-    c: &mut [f64],
-    ld: usize,
-    n: usize,
-    h: usize,
-    g: usize,
-    k: usize,
-    fa: Form,
-    a: &[f64],
-    lda: usize,
-    fb: Form,
-    b: &[f64],
-    ldb: usize,
-    alpha: f64,
-    r: usize,
-)
-    requires { ⌜ (n ≤ ld) × (h * ld + n ≤ length (now c) + ld) × (0 < h) × (h ≤ 64) × (g + h ≤ n) × (0 < r) × (r ≤ 64) ⌝ }
-    requires { ⌜ ((i l : ℕ) → i < n → l < k → indexOf fa lda i l < length (now a)) × ((l j : ℕ) → l < k → j < n → indexOf fb ldb l j < length (now b)) ⌝ }
-    ensures { λ _. ⌜ now (c .exit) ≡ update (entries ld (only (trapezoid lower g n h) (product alpha (entryOf fa (now (a .entry)) lda) (fromColumn g (entryOf fb (now (b .entry)) ldb)) false k))) (now (c .entry)) ⌝ }
-{
-    let end = g + h;
-    let top = arrays::pick(lower, end, 0);
-    let rows = arrays::pick(lower, n - end, g);
-    kernel::triangle::triangle(
-        lower,
-        &mut c[g..],
-        ld,
-        h,
-        k,
-        fa,
-        a,
-        lda,
-        g,
-        fb,
-        b,
-        ldb,
-        g,
-        alpha,
-        r,
-    );
-    if rows == 0 {
-        return;
-    }
-    kernel::multiply(
-        &mut c[top..],
-        ld,
-        rows,
-        h,
-        k,
-        fa,
-        a,
-        lda,
-        top,
-        fb,
-        b,
-        ldb,
-        g,
-        alpha,
-        false,
-        r,
-    );
-}
-
-// The product in the strip's part of the triangle, by blocks of at most r columns: alpha times the left factor times the right one, all k terms of them.
-fn add_product(
-    lower: bool,
-    c: &mut [f64],
-    ld: usize,
-    n: usize,
-    cols: usize,
-    from: usize,
-    k: usize,
-    fa: Form,
-    a: &[f64],
-    lda: usize,
-    fb: Form,
-    b: &[f64],
-    ldb: usize,
-    alpha: f64,
-    r: usize,
-)
-    requires { ⌜ (0 < n) × (n ≤ ld) × (cols * ld + n ≤ length (now c) + ld) × (from + cols ≤ n) × (0 < r) × (r ≤ 64) ⌝ }
-    requires { ⌜ ((i l : ℕ) → i < n → l < k → indexOf fa lda i l < length (now a)) × ((l j : ℕ) → l < k → j < n → indexOf fb ldb l j < length (now b)) ⌝ }
-    ensures { λ _. ⌜ now (c .exit) ≡ update (entries ld (only (trapezoid lower from n cols) (product alpha (entryOf fa (now (a .entry)) lda) (fromColumn from (entryOf fb (now (b .entry)) ldb)) false k))) (now (c .entry)) ⌝ }
-{
-    let mut j = 0;
-    while j < cols {
-        let h = arrays::smaller(r, cols - j);
-        let x = j * ld;
-        add_columns(
-            lower,
-            &mut c[x..],
-            ld,
-            n,
-            h,
-            from + j,
-            k,
-            fa,
-            a,
-            lda,
-            fb,
-            b,
-            ldb,
-            alpha,
-            r,
-        );
-        j += h;
-    }
-}
-
 // SYRK's strip of `cols` columns from column `from` on: c is the part of C that starts there, and blocks are of r rows, columns and terms.
 pub fn syrk_strip(
     call: Call,
@@ -194,7 +82,7 @@ pub fn syrk_strip(
     r: usize,
 )
     requires { ⌜ Fits Syrk call (length (now a)) (length (now b)) (from * call .ldc + length (now c)) ⌝ }
-    requires { ⌜ (0 < cols) × (cols ≤ 64) × (from + cols ≤ call .n) × (0 < r) × (r ≤ 64) ⌝ }
+    requires { ⌜ (0 < cols) × (cols ≤ 256) × (from + cols ≤ call .n) × (0 < r) × (r ≤ 64) ⌝ }
     ensures { λ _. ⌜ StripOf call (now (a .entry)) (now (b .entry)) from (from + cols) (from * call .ldc) (now (c .entry)) (now (c .exit)) ⌝ }
 {
     let uplo = call.uplo;
@@ -212,7 +100,7 @@ pub fn syrk_strip(
         return;
     }
     let f = alpha.factor();
-    add_product(lower, c, ldc, n, cols, from, k, p, a, lda, q, a, lda, f, r);
+    triangles::trapezoid(lower, c, ldc, n, cols, from, k, p, a, lda, q, a, lda, f, r);
 }
 
 // SYR2K's: all terms of op(A) times the transpose of op(B), then all of op(B) times the transpose of op(A).
@@ -226,7 +114,7 @@ pub fn syr2k_strip(
     r: usize,
 )
     requires { ⌜ Fits Syr2k call (length (now a)) (length (now b)) (from * call .ldc + length (now c)) ⌝ }
-    requires { ⌜ (0 < cols) × (cols ≤ 64) × (from + cols ≤ call .n) × (0 < r) × (r ≤ 64) ⌝ }
+    requires { ⌜ (0 < cols) × (cols ≤ 256) × (from + cols ≤ call .n) × (0 < r) × (r ≤ 64) ⌝ }
     ensures { λ _. ⌜ StripOf call (now (a .entry)) (now (b .entry)) from (from + cols) (from * call .ldc) (now (c .entry)) (now (c .exit)) ⌝ }
 {
     let uplo = call.uplo;
@@ -245,6 +133,6 @@ pub fn syr2k_strip(
         return;
     }
     let f = alpha.factor();
-    add_product(lower, c, ldc, n, cols, from, k, p, a, lda, q, b, ldb, f, r);
-    add_product(lower, c, ldc, n, cols, from, k, p, b, ldb, q, a, lda, f, r);
+    triangles::trapezoid(lower, c, ldc, n, cols, from, k, p, a, lda, q, b, ldb, f, r);
+    triangles::trapezoid(lower, c, ldc, n, cols, from, k, p, b, ldb, q, a, lda, f, r);
 }

@@ -31,8 +31,8 @@ use Rattle.strips.specs.Lengths.{FitsArrays, widest}
 pub few-lines : (r : Routine) (n : ℕ) → n ≤ 64 → n ≤ widest r
 few-lines Gemm n h = omega arith
 few-lines Symm n h = omega arith
-few-lines Syrk n h = h
-few-lines Syr2k n h = h
+few-lines Syrk n h = omega arith
+few-lines Syr2k n h = omega arith
 few-lines Trmm n h = h
 few-lines Trsm n h = h
 

@@ -15,7 +15,7 @@ FitsArrays c a b out = Fits (c .routine) c a (if inPlace (c .routine) then out e
 abbrev pub widest : Routine → ℕ
 widest Gemm = 256
 widest Symm = 256
-widest Syrk = 64
-widest Syr2k = 64
+widest Syrk = 256
+widest Syr2k = 256
 widest Trmm = 64
 widest Trsm = 64

@@ -30,9 +30,10 @@ use Rattle.forms.specs.Forms.{opForm}
 use Rattle.lines.specs.Lines.{cell, grid, within, lineTerm, Room}
 use Rattle.lines.proofs.GridLaws.{cell-inside, grid-then, grid-same, grid-keep, grid-at}
 use Rattle.lines.proofs.TermLaws.{entry-from}
-use Rattle.trmm.specs.Sum.{termFrom, sumOf}
-use Rattle.trmm.proofs.ChosenLaws.{within-bounds, buffer-room}
-use Rattle.trmm.proofs.SumLaws.{beside-term, sum-after, sum-before}
+use Rattle.trmm_diagonal.specs.Terms.{termFrom}
+use Rattle.trmm_diagonal.proofs.ChosenLaws.{within-bounds, buffer-room}
+use Rattle.trmm.specs.Sum.{sumOf}
+use Rattle.trmm.proofs.SumLaws.{beside-term, sum-after, sum-before, sum-alone}
 
 -- ---- the terms beside the block, by the general multiply
 
@@ -121,13 +122,21 @@ module _ (left after : Bool) (alpha : Float) (diag : Diagonal) (M : Matrix) (ld 
       (fold-same _ _ p₀ e (λ i hi e. beside-term left alpha diag M (p₀ + q) e (0 + i) _ (λ y. omega arith)))
       ∙ sum-before left after alpha T (λ p. at b (cell left ld p l)) (p₀ + q) p₀ n rest m e whole a (omega arith) (omega arith))
 
-  -- the sums from +0.0, in the block's place
-  pub block-made : (z r : List Float) → 0 < ld → n ≤ 64 → lines ≤ 64 → 0 < n → 0 < lines
-      → z ≡ update (grid left 64 n lines (λ q l e. fold (termFrom left after alpha T 0 (λ p. at b (cell left ld p l)) (p₀ + q)) m e)) (replicate 4096 0f)
-      → r ≡ update (grid left ld m lines (λ q l e. if within p₀ n q then at z (cell left 64 (q - p₀) l) else e)) b
+  -- the diagonal block, if there are no terms beside it
+  pub sums-alone : (z r : List Float) → p₀ + n ≤ m → (after ≡ true → p₀ + n ≡ m) × (after ≡ false → p₀ ≡ 0)
+      → r ≡ update (grid false 64 n lines (λ q l e. fold (termFrom left after alpha T p₀ (λ k. at b (cell left ld (p₀ + k) l)) (p₀ + q)) n e)) z
+      → r ≡ update (grid false 64 n lines (λ q l e. fold (termFrom left after alpha T 0 (λ p. at b (cell left ld p l)) (p₀ + q)) m e)) z
+  sums-alone z r fit alone er =
+      er ∙ grid-same false 64 n lines _ _ z (omega arith)
+      (λ q l hq hl e. sum-alone left after alpha T (λ p. at b (cell left ld p l)) (p₀ + q) p₀ n m e fit (alone .0) (alone .1) (omega arith) (omega arith))
+
+  -- the sums from +0.0, which stand in z as `side` says, in the block's place
+  pub block-made : (side : Bool) (z r : List Float) → 0 < ld → n ≤ 64 → lines ≤ 64 → 0 < n → 0 < lines
+      → z ≡ update (grid side 64 n lines (λ q l e. fold (termFrom left after alpha T 0 (λ p. at b (cell left ld p l)) (p₀ + q)) m e)) (replicate 4096 0f)
+      → r ≡ update (grid left ld m lines (λ q l e. if within p₀ n q then at z (cell side 64 (q - p₀) l) else e)) b
       → r ≡ update (grid left ld m lines (λ q l e. if within p₀ n q then sumOf left after alpha T m (λ p. at b (cell left ld p l)) q else e)) b
   unfolding sumOf
-  block-made z r pos hn hl sn sl ez er =
+  block-made side z r pos hn hl sn sl ez er =
       er ∙ grid-same left ld m lines _ _ b pos
       (λ q l hq hll e.
       if-both (within p₀ n q) _ e _ e
@@ -135,16 +144,16 @@ module _ (left after : Bool) (alpha : Float) (diag : Diagonal) (M : Matrix) (ld 
       let k = within-bounds p₀ n q w in
       let at-q : p₀ + (q - p₀) ≡ q = omega (arith, k) in
       let low : q - p₀ < n = omega (arith, k) in
-      grid-at nan left 64 n lines _ (replicate 4096 0f) z (q - p₀) l room low hll ez
+      grid-at nan side 64 n lines _ (replicate 4096 0f) z (q - p₀) l room low hll ez
       ∙ ap₂ (λ (q : ℕ) (s : Float). fold (termFrom left after alpha T 0 (λ p. at b (cell left ld p l)) q) m s) at-q
-      (getD-replicate 4096 (cell left 64 (q - p₀) l) 0f nan (subst-length (cell-inside left 64 n lines _ (q - p₀) l room low hll))))
+      (getD-replicate 4096 (cell side 64 (q - p₀) l) 0f nan (subst-length (cell-inside side 64 n lines _ (q - p₀) l room low hll))))
       (λ _. refl))
     where
       len : length (replicate 4096 0f) ≡ 4096
       len = length-replicate 4096 0f
 
-      room : Room left 64 n lines (length (replicate 4096 0f))
-      room = buffer-room left n lines (length (replicate 4096 0f)) hn hl sn sl (omega (arith, len))
+      room : Room side 64 n lines (length (replicate 4096 0f))
+      room = buffer-room side n lines (length (replicate 4096 0f)) hn hl sn sl (omega (arith, len))
 
       subst-length : {i : ℕ} → i < length (replicate 4096 0f) → i < 4096
       subst-length h = omega (arith, len)

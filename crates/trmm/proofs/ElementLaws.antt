@@ -25,10 +25,12 @@ use Rattle.elements.specs.declared.End.{End}
 use Rattle.elements.specs.declared.End.the-variants.{Sum, OwnLast}
 use Rattle.lines.proofs.GridLaws.{grid-same-at}
 use Rattle.elements.proofs.StrideLaws.{term-is}
-use Rattle.trmm.specs.Sum.{termFrom, sumOf}
-use Rattle.trmm.proofs.ChosenLaws.{within-bounds}
-use Rattle.trmm.proofs.SumLaws.{has-own, beside-term, sum-after, sum-before}
-use Rattle.trmm.proofs.DiagonalLaws.{coefficient-own}
+use Rattle.trmm_diagonal.specs.Terms.{termFrom}
+use Rattle.trmm_diagonal.proofs.ChosenLaws.{within-bounds}
+use Rattle.trmm_diagonal.proofs.HasLaws.{has-own}
+use Rattle.trmm_diagonal.proofs.DiagonalLaws.{coefficient-own}
+use Rattle.trmm.specs.Sum.{sumOf}
+use Rattle.trmm.proofs.SumLaws.{beside-term, sum-after, sum-before}
 
 -- ---- the terms
 

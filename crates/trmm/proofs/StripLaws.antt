@@ -30,7 +30,8 @@ use Rattle.forms.proofs.Entries.{op-entry}
 use Rattle.lines.specs.Lines.{cell, grid, lineTerm}
 use Rattle.lines.proofs.GridLaws.{grid-same}
 use Rattle.lines.proofs.StripLaws.{other-side, LinesFit, left-entry, right-entry, left-strip, right-strip}
-use Rattle.trmm.specs.Sum.{has, termFrom, sumOf, lineValue}
+use Rattle.trmm_diagonal.specs.Terms.{has, termFrom}
+use Rattle.trmm.specs.Sum.{sumOf, lineValue}
 
 -- ---- all lines, by the cases of alpha
 

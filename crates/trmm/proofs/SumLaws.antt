@@ -2,80 +2,23 @@
 -- Assumes nothing.
 use mathlib.Core.Bool.{Bool, true, false}
 use mathlib.Core.Path.{_≡_, refl, sym, ap, _∙_}
-use mathlib.Core.Logic.{⊎-elim}
-use Prim.Native.Nat.{ℕ, _+_, _<_, _≤_}
+use Prim.Native.Nat.{ℕ, _+_, _-_, _<_, _≤_}
 use native.Mathlib.Nat.{zero-add}
 use native.Mathlib.Omega.{arith}
 use lib.Ieee.{Float}
-use borrow.Author.Tests.{le-leb, lt-leb, ne-eqb}
 use Rattle.arrays.specs.Choice.{if_then_else_}
 use Rattle.arrays.specs.Fold.{fold, among}
-use Rattle.arrays.proofs.Tests.{if-both}
-use Rattle.arrays.proofs.FoldLaws.{fold-split, fold-same, fold-keep}
-use Rattle.arrays.proofs.UpdateLaws.{lt-or-ge}
+use Rattle.arrays.proofs.Tests.{if-both, by-test}
+use Rattle.arrays.proofs.FoldLaws.{fold-none, fold-same}
 use Rattle.floats.specs.Operations.{_⊕_, _⊗_, 0f, 1f}
 use Rattle.definitions.specs.Storage.{withDiagonal}
 use Rattle.definitions.specs.declared.Diagonal.{Diagonal}
-use Rattle.definitions.specs.declared.Diagonal.the-variants.{Unit, Nonunit}
 use Rattle.packing.specs.Factor.{Matrix}
 use Rattle.lines.specs.Lines.{lineTerm}
-use Rattle.trmm.specs.Sum.{has, termFrom, sumOf}
-
--- ---- the terms that an element has
-
-pub has-after : {after : Bool} (q p : ℕ) → after ≡ true → q ≤ p → has after q p ≡ true
-unfolding has
-has-after q p a h = rw (a, le-leb q p h)
-
-pub has-not-after : {after : Bool} (q p : ℕ) → after ≡ true → p < q → has after q p ≡ false
-unfolding has
-has-not-after q p a h = rw (a, lt-leb q p h)
-
-pub has-before : {after : Bool} (q p : ℕ) → after ≡ false → p ≤ q → has after q p ≡ true
-unfolding has
-has-before q p a h = rw (a, le-leb p q h)
-
-pub has-not-before : {after : Bool} (q p : ℕ) → after ≡ false → q < p → has after q p ≡ false
-unfolding has
-has-not-before q p a h = rw (a, lt-leb p q h)
-
-pub has-own : (after : Bool) (q : ℕ) → has after q q ≡ true
-has-own true q = has-after q q refl (omega arith)
-has-own false q = has-before q q refl (omega arith)
-
--- the same with both moved by p₀
-pub has-from : (after : Bool) (p₀ q p : ℕ) → has after q p ≡ has after (p₀ + q) (p₀ + p)
-unfolding has
-has-from true p₀ q p =
-    ⊎-elim (λ (h : p < q). lt-leb q p h ∙ sym (lt-leb (p₀ + q) (p₀ + p) (omega arith))) (λ h. le-leb q p h ∙ sym (le-leb (p₀ + q) (p₀ + p) (omega arith))) (lt-or-ge p q)
-has-from false p₀ q p =
-    ⊎-elim (λ (h : q < p). lt-leb p q h ∙ sym (lt-leb (p₀ + p) (p₀ + q) (omega arith))) (λ h. le-leb p q h ∙ sym (le-leb (p₀ + p) (p₀ + q) (omega arith))) (lt-or-ge q p)
-
--- ---- the terms of a block of n elements from the p-th on, and of the elements on one side of it, for an element of the block
-
-module _ {E : Type 0} {after : Bool} (step : E → ℕ → E) (q p n rest m : ℕ) (e : E) (whole : p + n + rest ≡ m) (lo : p ≤ q) (hi : q < p + n) where
-  -- the terms after the block's are had by all of its elements, those before it by none
-  pub block-then-after : after ≡ true
-      → fold (λ e i. step e (p + n + i)) rest (fold (λ e i. among (has after q) step e (p + i)) n e) ≡ fold (among (has after q) step) m e
-  unfolding among
-  block-then-after a =
-      sym (ap (λ (k : ℕ). fold (among (has after q) step) k e) (sym whole)
-      ∙ fold-split (among (has after q) step) (p + n) rest e
-      ∙ ap (fold (λ e i. among (has after q) step e (p + n + i)) rest)
-      (fold-split (among (has after q) step) p n e
-      ∙ ap (fold (λ e i. among (has after q) step e (p + i)) n) (fold-keep _ p e (λ i b e. rw (has-not-after q i a (omega arith)))))
-      ∙ fold-same _ _ rest _ (λ i b e. rw (has-after q (p + n + i) a (omega arith))))
-
-  -- the terms before the block's are had by all of its elements, those after it by none
-  pub before-then-block : after ≡ false
-      → fold (λ e i. among (has after q) step e (p + i)) n (fold step p e) ≡ fold (among (has after q) step) m e
-  unfolding among
-  before-then-block a =
-      sym (ap (λ (k : ℕ). fold (among (has after q) step) k e) (sym whole)
-      ∙ fold-split (among (has after q) step) (p + n) rest e
-      ∙ fold-keep _ rest _ (λ i b e. rw (has-not-before q (p + n + i) a (omega arith)))
-      ∙ fold-split (among (has after q) step) p n e
-      ∙ ap (fold (λ e i. among (has after q) step e (p + i)) n) (fold-same _ _ p e (λ i b e. rw (has-before q i a (omega arith)))))
+use Rattle.trmm_diagonal.specs.Terms.{has, termFrom}
+use Rattle.trmm_diagonal.proofs.HasLaws.{block-then-after, before-then-block}
+use Rattle.trmm_diagonal.proofs.DiagonalLaws.{beside}
+use Rattle.trmm.specs.Sum.{sumOf}
 
 -- ---- one term
 
@@ -86,12 +29,7 @@ unfolding lineTerm
 same-entry true alpha T S q e p x h k = ap (λ (u : Float). e ⊕ (alpha ⊗ x) ⊗ u) h
 same-entry false alpha T S q e p x h k = ap (λ (u : Float). e ⊕ (alpha ⊗ u) ⊗ x) k
 
--- the entries beside the diagonal are those of the array
-pub beside : (diag : Diagonal) (M : Matrix) (i j : ℕ) → (i ≡ j → ⊥) → withDiagonal 1f diag M i j ≡ M i j
-unfolding withDiagonal
-beside Unit M i j h = rw (ne-eqb i j h)
-beside Nonunit M i j h = refl
-
+-- beside the diagonal this is the array's
 pub beside-term : (left : Bool) (alpha : Float) (diag : Diagonal) (M : Matrix) (q : ℕ) (e : Float) (p : ℕ) (x : Float) → (q ≡ p → ⊥)
     → lineTerm left alpha M q e p x ≡ lineTerm left alpha (withDiagonal 1f diag M) q e p x
 beside-term left alpha diag M q e p x h =
@@ -122,6 +60,16 @@ module _ (left after : Bool) (alpha : Float) (T : Matrix) where
         ap (fold (termFrom left after alpha T p (λ i. x (p + i)) q) n) (fold-same _ _ p e (λ i b e. ap (λ (k : ℕ). lineTerm left alpha T q e k (x k)) (zero-add i)))
         ∙ before-then-block (λ e p. lineTerm left alpha T q e p (x p)) q p n rest m e em lo hi a
         ∙ whole-sum m e
+
+    -- the block's own, if there are none beside it
+    pub sum-alone : (p n m : ℕ) (e : Float) → p + n ≤ m → (after ≡ true → p + n ≡ m) → (after ≡ false → p ≡ 0) → p ≤ q → q < p + n
+        → fold (termFrom left after alpha T p (λ i. x (p + i)) q) n e ≡ fold (termFrom left after alpha T 0 x q) m e
+    sum-alone p n m e fit none-after none-before lo hi =
+        by-test after
+        (λ a. sym (fold-none _ _) ∙ sum-after p n 0 m e (omega (arith, none-after a)) a lo hi)
+        (λ a.
+        sym (ap (fold (termFrom left after alpha T p (λ i. x (p + i)) q) n) (ap (λ (k : ℕ). fold (λ e i. lineTerm left alpha T q e (0 + i) (x (0 + i))) k e) (none-before a) ∙ fold-none _ e))
+        ∙ sum-before p n (m - (p + n)) m e (omega arith) a lo hi)
 
     -- the value of a term that the element does not have is not read
     term-same : (lo : ℕ) (e : Float) (i : ℕ) (y : ℕ → Float) → (has after q (lo + i) ≡ true → x i ≡ y i)

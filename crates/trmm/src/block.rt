@@ -12,8 +12,8 @@ ghost use Rattle.definitions.specs.Storage.{withDiagonal};
 ghost use Rattle.packing.specs.Factor.{indexOf, entryOf};
 ghost use Rattle.forms.specs.Forms.{opForm};
 ghost use Rattle.lines.specs.Lines.{cell, grid, within, lineTerm, Room};
-ghost use Rattle.trmm.specs.Sum.{termFrom, sumOf};
-use super::diagonal;
+ghost use Rattle.trmm_diagonal.specs.Terms.{termFrom};
+ghost use Rattle.trmm.specs.Sum.{sumOf};
 use definitions::Diagonal;
 use definitions::Transpose;
 use packing::Form;
@@ -165,7 +165,7 @@ fn sums(
     ensures { λ _. ⌜ now (z .exit) ≡ update (grid left 64 n lines (λ q l e. fold (termFrom left after alpha (withDiagonal 1f diag (entryOf (opForm t) (now (a .entry)) lda)) 0 (λ p. at (now (b .entry)) (cell left ld p l)) (p0 + q)) m e)) (now (z .entry)) ⌝ }
 {
     if after {
-        diagonal::diagonal(
+        trmm_diagonal::diagonal(
             left,
             after,
             diag,
@@ -202,7 +202,7 @@ fn sums(
         return;
     }
     beside(left, alpha, t, a, lda, b, ld, m, lines, p0, n, 0, p0, z, r);
-    diagonal::diagonal(
+    trmm_diagonal::diagonal(
         left,
         after,
         diag,
@@ -220,7 +220,15 @@ fn sums(
     );
 }
 
-// The n elements from p0 on of each line become their sums over all m elements.
+// Whether no element outside the n elements from p0 on has a term in their sums.
+fn is_alone(after: bool, m: usize, p0: usize, n: usize) -> bool
+    requires { ⌜ p0 + n ≤ m ⌝ }
+    ensures { λ r. ⌜ (r ≡ true → (after ≡ true → p0 + n ≡ m) × (after ≡ false → p0 ≡ 0)) ⌝ }
+{
+    if after { p0 + n == m } else { p0 == 0 }
+}
+
+// The n elements from p0 on of each line become their sums over all m elements. If the block is alone, these are made across at once.
 pub fn block(
     left: bool,
     after: bool,
@@ -243,6 +251,26 @@ pub fn block(
     ensures { λ _. ⌜ now (b .exit) ≡ update (grid left ld m lines (λ q l e. if within p0 n q then sumOf left after alpha (withDiagonal 1f diag (entryOf (opForm t) (now (a .entry)) lda)) m (λ p. at (now (b .entry)) (cell left ld p l)) q else e)) (now (b .entry)) ⌝ }
 {
     let mut z = [0.0f64; 4096];
+    if is_alone(after, m, p0, n) {
+        trmm_diagonal::across(
+            left,
+            after,
+            diag,
+            alpha,
+            t,
+            a,
+            lda,
+            b,
+            ld,
+            m,
+            lines,
+            p0,
+            n,
+            &mut z,
+        );
+        lines::put(left, false, b, ld, m, lines, p0, n, &z);
+        return;
+    }
     sums(
         left,
         after,

@@ -24,7 +24,6 @@ ghost use Rattle.elements.specs.declared.End.the-variants.{Sum, OwnLast};
 ghost use Rattle.trmm.specs.Sum.{sumOf, lineValue};
 
 pub mod block;
-pub mod diagonal;
 
 use blocks::pass;
 use definitions::Call;
@@ -125,7 +124,7 @@ fn sum_element(
     requires { ⌜ ((i j : ℕ) → i < m → j < m → indexOf (opForm t) lda i j < length (now a)) ⌝ }
     ensures { λ _. ⌜ now (b .exit) ≡ update (grid left ld m lines (λ q l e. if within i 1 q then sumOf left after alpha (withDiagonal 1f diag (entryOf (opForm t) (now (a .entry)) lda)) m (λ p. at (now (b .entry)) (cell left ld p l)) q else e)) (now (b .entry)) ⌝ }
 {
-    let w = diagonal::pivot(diag, a, lda, i);
+    let w = trmm_diagonal::pivot(diag, a, lda, i);
     let lo = arrays::pick(after, i + 1, 0);
     let count = arrays::pick(after, m - 1 - i, i);
     elements::element(

@@ -26,10 +26,11 @@ use Rattle.elements.specs.declared.Start.the-variants.{Value}
 use Rattle.elements.specs.declared.End.{End}
 use Rattle.lines.proofs.GridLaws.{grid-same}
 use Rattle.elements.proofs.StrideLaws.{term-is}
-use Rattle.trsm.specs.Solve.{ordered, solution, sumAfter, stateOf, front, solveTerm, solveEnd, Step}
-use Rattle.trsm.proofs.OrderLaws.{first-one, within-turn}
-use Rattle.trsm.proofs.StateLaws.{value-is, state-start, front-in, narrower, wider, block-ended, held}
-use Rattle.trsm.proofs.BlockLaws.{diagonal-index}
+use Rattle.trsm_diagonal.specs.Solve.{ordered, solution, sumAfter, stateOf, front, solveTerm, solveEnd}
+use Rattle.trsm_diagonal.proofs.OrderLaws.{first-one, within-turn}
+use Rattle.trsm_diagonal.proofs.StateLaws.{value-is, state-start, front-in, narrower, wider, block-ended, held}
+use Rattle.trsm_diagonal.proofs.BlockLaws.{diagonal-index}
+use Rattle.trsm.specs.Steps.{Step}
 
 -- ---- the elements of the terms: those of the unknowns in order
 

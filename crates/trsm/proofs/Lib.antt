@@ -1,11 +1,7 @@
-pub mod OrderLaws
-pub mod StateLaws
-pub mod AcrossLaws
-pub mod FactorLaws
-pub mod BlockLaws
-pub mod ZeroLaws
 pub mod StepLaws
+pub mod BlockStepLaws
 pub mod ElementLaws
+pub mod ReportLaws
 pub mod WayLaws
 pub mod LineLaws
 pub mod ValueLaws

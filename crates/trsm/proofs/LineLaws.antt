@@ -20,8 +20,9 @@ use Rattle.packing.specs.Factor.{Matrix}
 use Rattle.kernel.specs.Product.{turn}
 use Rattle.lines.specs.Lines.{cell, grid}
 use Rattle.lines.proofs.GridLaws.{grid-same}
-use Rattle.trsm.specs.Solve.{ordered, front, solveTerm, solveEnd, lineValue, Step}
-use Rattle.trsm.proofs.StateLaws.{all-started, all-solved}
+use Rattle.trsm_diagonal.specs.Solve.{ordered, front, solveTerm, solveEnd}
+use Rattle.trsm_diagonal.proofs.StateLaws.{all-started, all-solved}
+use Rattle.trsm.specs.Steps.{lineValue, Step}
 
 -- one change of all elements
 all-elements : (left : Bool) (ld m lines rows cols : ℕ) (f : Float → Float) → rows ≡ (if left then m else lines) → cols ≡ (if left then lines else m)

@@ -1,12 +1,12 @@
 -- What the code's updates of B are as steps of the solution.
 -- Assumes nothing.
 use mathlib.Core.Bool.{Bool, true, false}
-use mathlib.Core.Path.{_≡_, refl, sym, ap, ap₂, subst, _∙_}
+use mathlib.Core.Path.{_≡_, sym, ap, ap₂, subst, _∙_}
 use mathlib.Core.List.{List}
 use Prim.Native.Nat.{ℕ, _+_, _<_, _≤_}
 use native.Mathlib.Omega.{arith}
 use lib.ListN.{length}
-use lib.Ieee.{Float, nan, binary64, neg, ofBits}
+use lib.Ieee.{Float, nan}
 use Rattle.arrays.specs.Choice.{if_then_else_}
 use Rattle.arrays.specs.Update.{update}
 use Rattle.arrays.specs.Fold.{fold}
@@ -22,13 +22,10 @@ use Rattle.kernel.specs.Product.{turn}
 use Rattle.kernel.proofs.PanelLaws.{turn-below}
 use Rattle.lines.specs.Lines.{cell, grid, within, lineTerm, Room}
 use Rattle.lines.proofs.GridLaws.{grid-same, grid-at}
-use Rattle.trsm.specs.Solve.{first, ordered, front, solveTerm, solveEnd, Step}
-use Rattle.trsm.proofs.OrderLaws.{turn-turn, turn-from, within-turn}
-use Rattle.trsm.proofs.StateLaws.{narrower, wider, rest-more, held}
-
-pub minus-one : neg (ofBits binary64 0x3ff0_0000_0000_0000) ≡ −1f
-unfolding neg ofBits
-minus-one = refl
+use Rattle.trsm_diagonal.specs.Solve.{first, ordered, front, solveTerm, solveEnd}
+use Rattle.trsm_diagonal.proofs.OrderLaws.{turn-turn, turn-from, within-turn}
+use Rattle.trsm_diagonal.proofs.StateLaws.{narrower, wider, rest-more, held}
+use Rattle.trsm.specs.Steps.{Step}
 
 -- what the term of element p for the sum of element i reads of A
 pub term-inside : (left : Bool) (t : Transpose) (ld len m i p : ℕ) → ((i j : ℕ) → i < m → j < m → indexOf (opForm t) ld i j < len) → i < m → p < m

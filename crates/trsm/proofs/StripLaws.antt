@@ -19,7 +19,7 @@ use Rattle.forms.specs.Forms.{opForm}
 use Rattle.forms.proofs.Entries.{op-entry}
 use Rattle.lines.specs.Lines.{cell, grid}
 use Rattle.lines.proofs.StripLaws.{left-entry, right-entry, left-strip, right-strip}
-use Rattle.trsm.specs.Solve.{goesDown, lineValue}
+use Rattle.trsm.specs.Steps.{goesDown, lineValue}
 use Rattle.trsm.proofs.ValueLaws.{isLeft, value-of}
 
 module _ (c : Call) (a b : List Float) (from lines : ℕ) (down : Bool) (old ys : List Float) (e : c .routine ≡ Trsm) (way : down ≡ goesDown (c .side) (c .transa) (c .uplo))

@@ -26,7 +26,8 @@ use Rattle.definitions.specs.declared.Call.{Call}
 use Rattle.kernel.specs.Product.{turn}
 use Rattle.kernel.proofs.PanelLaws.{turn-below}
 use Rattle.lines.specs.Lines.{lineTerm}
-use Rattle.trsm.specs.Solve.{next, solution, solveTerm, solveEnd, goesDown, lineValue}
+use Rattle.trsm_diagonal.specs.Solve.{next, solution, solveTerm, solveEnd}
+use Rattle.trsm.specs.Steps.{goesDown, lineValue}
 
 -- ---- the diagonal
 

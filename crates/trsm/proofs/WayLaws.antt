@@ -9,7 +9,7 @@ use Rattle.definitions.specs.declared.Side.the-variants.{Left, Right}
 use Rattle.definitions.specs.declared.Transpose.{Transpose}
 use Rattle.definitions.specs.declared.Triangle.{Triangle}
 use Rattle.lines.proofs.StripLaws.{other-side}
-use Rattle.trsm.specs.Solve.{goesDown}
+use Rattle.trsm.specs.Steps.{goesDown}
 
 module _ {side : Side} {low : Bool} (t : Transpose) (uplo : Triangle) (e : low ≡ solvesUp Left (opTriangle t uplo)) where
   pub way-left : side ≡ Left → not low ≡ goesDown side t uplo

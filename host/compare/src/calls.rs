@@ -12,11 +12,12 @@ pub type Each<'e> = &'e mut dyn FnMut(&str, u64, &dyn Fn(&mut Random) -> Case);
 pub type Calls = fn(Routine, Each);
 
 /// The calls of all tests.
-pub const ALL: [Calls; 9] = [
+pub const ALL: [Calls; 10] = [
     options_and_sizes,
     widths_and_block_sizes,
     random,
     around_multiples_of_64,
+    more_than_256_columns,
     zeros,
     beside_nans,
     zeros_on_the_diagonal,
@@ -107,6 +108,22 @@ pub fn around_multiples_of_64(routine: Routine, each: Each) {
         let options = &combinations[index % combinations.len()];
         each(&format!("large {routine:?}"), index as u64, &|random| {
             large(random, routine, |call| take_options(call, options))
+        });
+    }
+}
+
+/// So many columns that the library takes them in more than one turn, or just not, and few of everything else.
+pub fn more_than_256_columns(routine: Routine, each: Each) {
+    let combinations = plain_combinations(routine);
+    for index in cases(3 * combinations.len()) {
+        let options = &combinations[index / 3];
+        each(&format!("wide {routine:?}"), index as u64, &|random| {
+            large(random, routine, |call| {
+                take_options(call, options);
+                call.n = [256, 257, 330][index % 3];
+                (call.m, call.k) = [(5, 17), (65, 3), (1, 65), (17, 5), (3, 1)][index % 5];
+                (call.w, call.r) = [(0, 0), (64, call.r), (call.w, 0), (63, 64)][index % 4];
+            })
         });
     }
 }

@@ -34,6 +34,11 @@ fn sizes_around_multiples_of_64() {
 }
 
 #[test]
+fn more_columns_than_the_library_takes_at_a_time() {
+    agree(calls::more_than_256_columns);
+}
+
+#[test]
 fn a_strip_width_or_block_size_of_0() {
     agree(calls::zeros);
 }

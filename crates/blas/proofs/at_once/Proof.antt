@@ -22,8 +22,14 @@ mul-result-2 c = search needs
 enum-told-3 : tie.Need-enum-told-3
 enum-told-3 c = search needs
 
+mul-result-3 : tie.Need-mul-result-3
+mul-result-3 c = search needs
+
 enum-told-4 : tie.Need-enum-told-4
 enum-told-4 c = search needs
+
+mul-result-4 : tie.Need-mul-result-4
+mul-result-4 c = search needs
 
 enum-told-5 : tie.Need-enum-told-5
 enum-told-5 c = search needs
@@ -58,7 +64,9 @@ at-once-spec =
     enum-told-2
     mul-result-2
     enum-told-3
+    mul-result-3
     enum-told-4
+    mul-result-4
     enum-told-5
     enum-told-6
     returns

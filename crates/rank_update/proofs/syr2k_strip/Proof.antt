@@ -73,29 +73,29 @@ returns c =
 factor-requires : tie.Need-factor-requires
 factor-requires c κs = search needs
 
-add-product-requires : tie.Need-add-product-requires
+trapezoid-requires : tie.Need-trapezoid-requires
 unfolding shapeA shapeB shapeC
-add-product-requires c κs =
+trapezoid-requires c κs =
     let g = c .before .before .before .before .before .before .before .before .before .before .before .before .before .before .before .before .before .before .before .args .call in
     let f = c .before .before .before .before .before .before .before .before .before .before .before .before .before .before .before .before .before .before .before .pre .0 in
     let b = c .before .before .before .before .before .before .before .before .before .before .before .before .before .before .before .before .before .before .before .pre .1 in
     let z = sym (c .before .before .before .is-zero .ensures) ∙ c .before .before .if1 .left in
     let u = reads g _ _ _ _ (c .before .before .before .before .before .before .before .before .before .before .before .before .before .before .op-form .ensures) (c .before .before .before .before .before .before .before .before .before .before .before .before .before .transposed-form .ensures) z (f .room-a) in
     let w = reads g _ _ _ _ (c .before .before .before .before .before .before .before .before .before .before .before .before .before .before .op-form .ensures) (c .before .before .before .before .before .before .before .before .before .before .before .before .before .transposed-form .ensures) z (f .room-b) in (
-      (f .some-columns, f .ld-c, omega (arith, room (c .before .before .before .before .before .before .before .before .before .before .before .before .before .before .before .before), c .before .before .before .before .before .before .start-strip .kept), omega (arith, b), omega (arith, b), omega (arith, b)),
+      (f .ld-c, omega (arith, room (c .before .before .before .before .before .before .before .before .before .before .before .before .before .before .before .before), c .before .before .before .before .before .before .start-strip .kept), omega (arith, b), omega (arith, b), omega (arith, b), omega (arith, b), omega (arith, b)),
       (search (u .left, w .left), search (u .right, w .right)),
     )
 
-add-product-requires-2 : tie.Need-add-product-requires-2
+trapezoid-requires-2 : tie.Need-trapezoid-requires-2
 unfolding shapeA shapeB shapeC
-add-product-requires-2 c κs =
+trapezoid-requires-2 c κs =
     let g = c .before .before .before .before .before .before .before .before .before .before .before .before .before .before .before .before .before .before .before .before .before .before .before .args .call in
     let f = c .before .before .before .before .before .before .before .before .before .before .before .before .before .before .before .before .before .before .before .before .before .before .before .pre .0 in
     let b = c .before .before .before .before .before .before .before .before .before .before .before .before .before .before .before .before .before .before .before .before .before .before .before .pre .1 in
     let z = sym (c .before .before .before .before .before .before .before .is-zero .ensures) ∙ c .before .before .before .before .before .before .if1 .left in
     let u = reads g _ _ _ _ (c .before .before .before .before .before .before .before .before .before .before .before .before .before .before .before .before .before .before .op-form .ensures) (c .before .before .before .before .before .before .before .before .before .before .before .before .before .before .before .before .before .transposed-form .ensures) z (f .room-a) in
     let w = reads g _ _ _ _ (c .before .before .before .before .before .before .before .before .before .before .before .before .before .before .before .before .before .before .op-form .ensures) (c .before .before .before .before .before .before .before .before .before .before .before .before .before .before .before .before .before .transposed-form .ensures) z (f .room-b) in (
-      (f .some-columns, f .ld-c, omega (arith, room (c .before .before .before .before .before .before .before .before .before .before .before .before .before .before .before .before .before .before .before .before), c .before .before .before .before .before .before .before .before .before .before .start-strip .kept, c .before .before .before .add-product .kept), omega (arith, b), omega (arith, b), omega (arith, b)),
+      (f .ld-c, omega (arith, room (c .before .before .before .before .before .before .before .before .before .before .before .before .before .before .before .before .before .before .before .before), c .before .before .before .before .before .before .before .before .before .before .start-strip .kept, c .before .before .before .trapezoid .kept), omega (arith, b), omega (arith, b), omega (arith, b), omega (arith, b), omega (arith, b)),
       (search (u .left, w .left), search (u .right, w .right)),
     )
 
@@ -113,8 +113,8 @@ returns-2 c =
     (f .some-columns) (f .ld-c) (omega (arith, c .before .before .before .before .before .before .before .before .before .before .before .before .before .before .before .before .before .before .before .before .before .before .before .before .before .before .pre .1)) _ _
     (all-added g _ _ _ (omega (arith, f .some-columns, f .ld-c)) _ _ _ (sym (c .before .before .before .before .before .before .before .before .before .before .is-zero .ensures) ∙ c .before .before .before .before .before .before .before .before .before .if1 .left)
     (product-added g _ _ _ (omega (arith, f .some-columns, f .ld-c)) _ (entryOf (c .before .before .before .before .before .before .before .before .before .before .before .before .before .before .before .before .before .before .before .before .before .op-form .result) (now (c .before .before .before .before .before .before .before .before .before .before .before .before .before .before .before .before .before .before .before .before .before .before .before .before .before .before .args .a)) (c .before .before .before .before .before .before .before .before .before .before .before .before .before .before .before .before .before .before .before .before .before .before .before .before .before .before .args .call .lda) times entryOf (c .before .before .before .before .before .before .before .before .before .before .before .before .before .before .before .before .before .before .before .before .transposed-form .result) (now (c .before .before .before .before .before .before .before .before .before .before .before .before .before .before .before .before .before .before .before .before .before .before .before .before .before .before .args .b)) (c .before .before .before .before .before .before .before .before .before .before .before .before .before .before .before .before .before .before .before .before .before .before .before .before .before .before .args .call .ldb) ∷ []) _ _ _ _ _ (c .before .before .before .before .before .before .before .before .factor .ensures)
-    (product-added g _ _ _ (omega (arith, f .some-columns, f .ld-c)) _ [] _ _ _ _ _ (c .before .before .before .before .before .before .before .before .factor .ensures) (none-added g _ _ _ (omega (arith, f .some-columns, f .ld-c)) _ _ (c .before .before .before .before .before .before .before .before .before .before .before .before .before .start-strip .ensures)) (c .before .before .before .before .before .before .add-product .ensures))
-    (c .before .before .add-product2 .ensures)))
+    (product-added g _ _ _ (omega (arith, f .some-columns, f .ld-c)) _ [] _ _ _ _ _ (c .before .before .before .before .before .before .before .before .factor .ensures) (none-added g _ _ _ (omega (arith, f .some-columns, f .ld-c)) _ _ (c .before .before .before .before .before .before .before .before .before .before .before .before .before .start-strip .ensures)) (c .before .before .before .before .before .before .trapezoid .ensures))
+    (c .before .before .trapezoid2 .ensures)))
 
 pub syr2k-strip-spec : {M : Type 1} → statement M
 syr2k-strip-spec =
@@ -133,7 +133,7 @@ syr2k-strip-spec =
     same-length
     returns
     factor-requires
-    add-product-requires
-    add-product-requires-2
+    trapezoid-requires
+    trapezoid-requires-2
     same-length-2
     returns-2)

@@ -70,15 +70,15 @@ returns c =
 factor-requires : tie.Need-factor-requires
 factor-requires c κs = search needs
 
-add-product-requires : tie.Need-add-product-requires
+trapezoid-requires : tie.Need-trapezoid-requires
 unfolding shapeA shapeC
-add-product-requires c κs =
+trapezoid-requires c κs =
     let g = c .before .before .before .before .before .before .before .before .before .before .before .before .before .before .before .before .before .before .args .call in
     let f = c .before .before .before .before .before .before .before .before .before .before .before .before .before .before .before .before .before .before .pre .0 in
     let b = c .before .before .before .before .before .before .before .before .before .before .before .before .before .before .before .before .before .before .pre .1 in
     let z = sym (c .before .before .before .is-zero .ensures) ∙ c .before .before .if1 .left in
     let u = reads g _ _ _ _ (c .before .before .before .before .before .before .before .before .before .before .before .before .before .op-form .ensures) (c .before .before .before .before .before .before .before .before .before .before .before .before .transposed-form .ensures) z (f .room-a) in (
-      (f .some-columns, f .ld-c, omega (arith, room (c .before .before .before .before .before .before .before .before .before .before .before .before .before .before .before), c .before .before .before .before .before .before .start-strip .kept), omega (arith, b), omega (arith, b), omega (arith, b)),
+      (f .ld-c, omega (arith, room (c .before .before .before .before .before .before .before .before .before .before .before .before .before .before .before), c .before .before .before .before .before .before .start-strip .kept), omega (arith, b), omega (arith, b), omega (arith, b), omega (arith, b), omega (arith, b)),
       (u .left, u .right),
     )
 
@@ -95,7 +95,7 @@ returns-2 c =
     (λ i j x. rw (c .before .before .before .before .before .before .before .before .before .before .before .before .before .before .before .before .op-form .ensures, c .before .before .before .before .before .before .before .before .before .before .before .before .before .before .before .transposed-form .ensures) (syrk-value g _ _ i j x))
     (f .some-columns) (f .ld-c) (omega (arith, c .before .before .before .before .before .before .before .before .before .before .before .before .before .before .before .before .before .before .before .before .before .pre .1)) _ _
     (all-added g _ _ _ (omega (arith, f .some-columns, f .ld-c)) _ _ _ (sym (c .before .before .before .before .before .before .is-zero .ensures) ∙ c .before .before .before .before .before .if1 .left)
-    (product-added g _ _ _ (omega (arith, f .some-columns, f .ld-c)) _ [] _ _ _ _ _ (c .before .before .before .before .factor .ensures) (none-added g _ _ _ (omega (arith, f .some-columns, f .ld-c)) _ _ (c .before .before .before .before .before .before .before .before .before .start-strip .ensures)) (c .before .before .add-product .ensures)))
+    (product-added g _ _ _ (omega (arith, f .some-columns, f .ld-c)) _ [] _ _ _ _ _ (c .before .before .before .before .factor .ensures) (none-added g _ _ _ (omega (arith, f .some-columns, f .ld-c)) _ _ (c .before .before .before .before .before .before .before .before .before .start-strip .ensures)) (c .before .before .trapezoid .ensures)))
 
 pub syrk-strip-spec : {M : Type 1} → statement M
 syrk-strip-spec =
@@ -113,6 +113,6 @@ syrk-strip-spec =
     same-length
     returns
     factor-requires
-    add-product-requires
+    trapezoid-requires
     same-length-2
     returns-2)

@@ -5,7 +5,7 @@ use Rattle.packing.specs.Factor.{entryOf, along}
 use Rattle.packing.proofs.FactorLaws.{upward}
 use Rattle.forms.specs.Forms.{opForm}
 use Rattle.lines.proofs.TriangleLaws.{run-room}
-use Rattle.trmm.proofs.DiagonalLaws.{diagonal-index}
+use Rattle.trmm_diagonal.proofs.DiagonalLaws.{diagonal-index}
 use Rattle.trmm.proofs.ElementLaws.{element-summed}
 use borrow.Author.Needs.{needs}
 use native.Mathlib.Omega.{arith}

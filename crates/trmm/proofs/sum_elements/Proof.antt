@@ -14,8 +14,10 @@ use Rattle.packing.specs.Factor.{entryOf}
 use Rattle.forms.specs.Forms.{opForm}
 use Rattle.lines.specs.Lines.{cell, grid}
 use Rattle.lines.proofs.GridLaws.{some-ld}
-use Rattle.trmm.specs.Sum.{sumOf, done}
-use Rattle.trmm.proofs.OrderLaws.{none-done, all-done, block-done}
+use Rattle.trmm_diagonal.specs.Terms.{done}
+use Rattle.trmm_diagonal.proofs.DoneLaws.{none-done, all-done}
+use Rattle.trmm.specs.Sum.{sumOf}
+use Rattle.trmm.proofs.OrderLaws.{block-done}
 use native.Mathlib.Omega.{arith}
 use Rattle.trmm.proofs.sum_elements.Statement.{statement}
 use Rattle.trmm.proofs.sum_elements.Tie as tie

@@ -8,9 +8,10 @@ use denote.Ref.{now}
 use Rattle.packing.specs.Factor.{entryOf}
 use Rattle.forms.specs.Forms.{opForm}
 use Rattle.lines.proofs.GridLaws.{some-ld}
-use Rattle.trsm.specs.Solve.{front, Step}
+use Rattle.trsm_diagonal.specs.Solve.{front}
+use Rattle.trsm_diagonal.proofs.ZeroLaws.{LowestZero, zero-none, zero-more, zero-all}
+use Rattle.trsm.specs.Steps.{Step}
 use Rattle.trsm.proofs.StepLaws.{block-more}
-use Rattle.trsm.proofs.ZeroLaws.{LowestZero, zero-none, zero-more, zero-all}
 use native.Mathlib.Omega.{arith}
 use borrow.Author.Needs.{needs}
 use Rattle.trsm.proofs.solve.Statement.{statement}

@@ -8,8 +8,8 @@ use Rattle.arrays.proofs.PartLaws.{tail-length, column-room, columns-room}
 use Rattle.packing.specs.Factor.{entryOf}
 use Rattle.forms.specs.Forms.{opForm}
 use Rattle.lines.proofs.GridLaws.{some-ld}
-use Rattle.trsm.proofs.BlockLaws.{copied-step, lent-step}
-use Rattle.trsm.proofs.ZeroLaws.{zero-block}
+use Rattle.trsm.proofs.BlockStepLaws.{copied-step, lent-step}
+use Rattle.trsm.proofs.ReportLaws.{zero-block}
 use borrow.Author.Needs.{needs}
 use Rattle.trsm.proofs.solve_block.Statement.{statement}
 use Rattle.trsm.proofs.solve_block.Tie as tie

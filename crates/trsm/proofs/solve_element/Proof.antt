@@ -6,7 +6,7 @@ use lib.ListN.{length}
 use denote.Ref.{now}
 use Rattle.kernel.proofs.PanelLaws.{panel-indices}
 use Rattle.lines.proofs.GridLaws.{some-ld}
-use Rattle.trsm.proofs.StepLaws.{minus-one}
+use Rattle.trsm_diagonal.proofs.FactorLaws.{minus-one}
 use Rattle.trsm.proofs.ElementLaws.{terms-below, diagonal-low, element-step}
 use borrow.Author.Needs.{needs}
 use Rattle.trsm.proofs.solve_element.Statement.{statement}

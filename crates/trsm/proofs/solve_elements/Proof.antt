@@ -10,10 +10,11 @@ use Rattle.definitions.specs.Element.{byZero}
 use Rattle.packing.specs.Factor.{entryOf}
 use Rattle.forms.specs.Forms.{opForm}
 use Rattle.lines.proofs.GridLaws.{some-ld}
-use Rattle.trsm.specs.Solve.{front, Step}
-use Rattle.trsm.proofs.BlockLaws.{diagonal-index}
+use Rattle.trsm_diagonal.specs.Solve.{front}
+use Rattle.trsm_diagonal.proofs.BlockLaws.{diagonal-index}
+use Rattle.trsm_diagonal.proofs.ZeroLaws.{LowestZero, zero-none, zero-unknown, zero-all}
+use Rattle.trsm.specs.Steps.{Step}
 use Rattle.trsm.proofs.ElementLaws.{diagonal-low, elements-none, elements-all}
-use Rattle.trsm.proofs.ZeroLaws.{LowestZero, zero-none, zero-unknown, zero-all}
 use borrow.Author.Needs.{needs}
 use Rattle.trsm.proofs.solve_elements.Statement.{statement}
 use Rattle.trsm.proofs.solve_elements.Tie as tie

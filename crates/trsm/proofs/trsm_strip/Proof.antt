@@ -12,7 +12,7 @@ use Rattle.definitions.specs.declared.Side.the-variants.{Left, Right}
 use Rattle.lines.proofs.StripLaws.{LinesFit, left-fits, right-fits}
 use Rattle.trsm.proofs.WayLaws.{way-left, way-right}
 use Rattle.trsm.proofs.StripLaws.{left-is, right-is}
-use Rattle.trsm.proofs.ZeroLaws.{zero-small, zero-reported}
+use Rattle.trsm.proofs.ReportLaws.{zero-small, zero-reported}
 use native.Mathlib.Omega.{arith}
 use borrow.Author.Needs.{needs}
 use Rattle.trsm.proofs.trsm_strip.Statement.{statement}

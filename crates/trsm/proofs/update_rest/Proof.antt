@@ -1,17 +1,18 @@
 -- `update_rest` adds the terms of solved unknowns: the sums of those below the i-th have them.
 -- Assumes nothing.
 use Prim.Native.Nat.{ℕ, _≤_, _<_, _-_, _+_}
-use mathlib.Core.Path.{_≡_, refl, sym, ap, subst, _∙_}
+use mathlib.Core.Path.{_≡_, refl, sym, subst, _∙_}
 use lib.ListN.{length}
 use denote.Ref.{now}
-use Rattle.arrays.proofs.UpdateLaws.{length-update}
 use Rattle.definitions.specs.declared.Diagonal.{Diagonal}
 use Rattle.packing.specs.Factor.{entryOf}
 use Rattle.forms.specs.Forms.{opForm}
 use Rattle.lines.specs.Lines.{Room}
 use Rattle.lines.proofs.GridLaws.{some-ld}
-use Rattle.trsm.specs.Solve.{front, Step}
-use Rattle.trsm.proofs.StepLaws.{minus-one, term-inside, terms-more, terms-done}
+use Rattle.trsm_diagonal.specs.Solve.{front}
+use Rattle.trsm_diagonal.proofs.FactorLaws.{minus-one}
+use Rattle.trsm.specs.Steps.{Step}
+use Rattle.trsm.proofs.StepLaws.{term-inside, terms-more, terms-done}
 use native.Mathlib.Omega.{arith}
 use borrow.Author.Needs.{needs}
 use Rattle.trsm.proofs.update_rest.Statement.{statement}
@@ -96,7 +97,7 @@ loop-again c =
     let s = turn (c .before .before .before .before .before .before) in (
       omega (arith, s),
       omega (arith, s),
-      ap length (c .before .before .add-terms .ensures) ∙ length-update _ _ ∙ c .before .before .before .before .before .before .before .before .loop .inv .2,
+      c .before .before .add-terms .kept .1 .1 .0 ∙ c .before .before .before .before .before .before .before .before .loop .inv .2,
       λ diag. terms-more (g .left) (g .down) (g .ld) (g .m) (g .lines) diag (entryOf (opForm (g .t)) (now (g .a)) (g .lda)) (some-ld (g .left) (g .ld) (g .m) (g .lines) _ (omega (arith, s)) (omega (arith, c .before .before .before .before .before .before .before .before .before .before .before .before .before .before .before .before .before .before .pre)) (c .before .before .before .before .before .before .before .before .before .before .before .before .before .before .before .before .before .before .pre .1 .0))
           _ (g .p) (g .n) (g .m) (c .before .before .before .before .before .before .before .before .loop .i) (c .before .before .before .before .before .before .smaller .result) (c .before .before .before .before .before .before .before .before .before .before .before .before .before .least .result) (c .before .before .before .before .before .least2 .result) _ _ (now (g .b)) (c .before .before .before .before .before .before .before .before .loop .b) _ minus-one (omega (arith, c .before .before .before .before .before .before .before .before .before .before .before .before .before .before .before .before .before .before .pre)) (omega (arith, c .before .before .before .before .before .before .before .before .before .before .before .before .before .before .before .before .before .before .pre)) (omega (arith, s)) (omega (arith, s)) (omega arith)
           (omega arith) (c .before .before .before .before .before .before .before .before .before .before .before .before .before .before .before .before .before .before .pre .1 .0) (c .before .before .before .before .before .before .before .before .before .before .before .before .before .least .ensures .0) (c .before .before .before .before .before .least2 .ensures .0) (c .before .before .before .before .before .before .before .before .before .before .take .ensures) (c .before .before .before .before .before .before .before .before .loop .inv .3 diag) (c .before .before .add-terms .ensures),

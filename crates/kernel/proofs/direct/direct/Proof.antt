@@ -10,7 +10,7 @@ use Rattle.kernel.proofs.direct.direct.Tie as tie
 
 returns : tie.Need-returns
 unfolding product
-returns c = rw (c .if1 .taken) (partly-none _ _ _ _ _ _ _ _ _)
+returns c = rw (c .if1 .taken) (partly-none _ _ _ _ _ _ _ _ _ _ _ _)
 
 is-mirrored-requires : tie.Need-is-mirrored-requires
 is-mirrored-requires c κs = search needs

@@ -9,7 +9,7 @@ use Rattle.arrays.proofs.PartLaws.{tail-length}
 use Rattle.kernel.proofs.DirectLaws.{left-room, right-room, left-entry, right-entry, same-product}
 use Rattle.kernel.specs.Product.{product}
 use Rattle.kernel.proofs.TrapezoidLaws.{within}
-use Rattle.kernel.proofs.TriangleLaws.{corner-terms-none}
+use Rattle.kernel.proofs.PanelLaws.{masked-none}
 use Rattle.kernel.proofs.direct.triangle.Statement.{statement}
 use Rattle.kernel.proofs.direct.triangle.Tie as tie
 
@@ -30,7 +30,7 @@ first c = record { left = omega (arith, left c 0 0 (omega arith) (omega arith));
 
 returns : tie.Need-returns
 unfolding product
-returns c = rw (c .if1 .taken) (corner-terms-none _ _ _ _ _ _ _ _ _ _ _ _ _ _)
+returns c = rw (c .if1 .taken) (masked-none _ _ _ _ _ _ _ _)
 
 row-stride-requires : tie.Need-row-stride-requires
 row-stride-requires c κs = search needs

@@ -44,7 +44,7 @@ turn c = record {
 }
 
 loop-holds : tie.Need-loop-holds Inv-loop μ-loop
-loop-holds c = (omega arith, refl, refl, refl, partly-none _ _ _ _ _ _ _ _ _)
+loop-holds c = (omega arith, refl, refl, refl, partly-none _ _ _ _ _ _ _ _ _ _ _ _)
 
 sub-smaller : tie.Need-sub-smaller Inv-loop μ-loop
 sub-smaller c = omega arith
@@ -101,7 +101,7 @@ loop-again : tie.Need-loop-again Inv-loop μ-loop
 loop-again c =
     let n = turn (c .before .before .before .before .before .before .before .before .before .before .before .before .before .before .before .before .before) in
     let e =
-    panel-next _ _ _ _ _ _ _ _ _ _ _ _ _ _ _ _ _ _ _ _ _ _ _ (omega (arith, n)) (omega (arith, n)) (omega (arith, n)) (c .before .before .before .before .before .before .before .before .before .before .before .before .before .before .before .before .turn-of .ensures .0)
+    panel-next _ _ _ _ _ _ _ _ _ _ _ _ _ _ _ _ _ _ _ _ (omega (arith, n)) (omega (arith, n)) (omega (arith, n)) (c .before .before .before .before .before .before .before .before .before .before .before .before .before .before .before .before .turn-of .ensures .0)
     (c .before .before .before .before .before .before .before .before .before .before .before .before .before .before .before .before .before .before .before .loop .inv .4) (c .before .before .before .before .before .before .before .before .before .before .before .before .before .before .pack .ensures) (c .before .before .before .before .before .before .before .before .before .before .scale .ensures) (c .before .before .before .before .sweep .ensures .0) in (
       omega (arith, n),
       ap length e ∙ length-update _ _,

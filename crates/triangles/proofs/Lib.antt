@@ -1,0 +1,2 @@
+pub mod TriangleLaws
+pub mod SlabLaws
