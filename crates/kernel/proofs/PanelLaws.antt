@@ -16,7 +16,7 @@ use Rattle.arrays.proofs.RegionLaws.{region-at, region-same, region-then, regio
 use Rattle.floats.specs.Operations.{_⊗_}
 use Rattle.floats.specs.Array.{at}
 use Rattle.blocks.specs.Terms.{packed}
-use Rattle.kernel.specs.Product.{halfPacked, turn, fromRow, fromColumn, partly}
+use Rattle.kernel.specs.Product.{halfPacked, turn, fromColumn, partly}
 use Rattle.kernel.proofs.TrapezoidLaws.{is-box}
 use Rattle.packing.specs.Factor.{Indices, Matrix, entryOf, along}
 use Rattle.packing.specs.declared.Form.{Form}

@@ -1,15 +1,13 @@
 // SYRK and SYR2K: the update of one strip. Only the strip's part of one triangle of C, diagonal included, is read or written.
 ghost use mathlib.Core.Path.{_≡_};
-ghost use mathlib.Core.Bool.{false};
-ghost use Prim.Native.Nat.{ℕ, _+_, _*_, _≤_, _<_};
+ghost use Prim.Native.Nat.{_+_, _*_, _≤_, _<_};
 ghost use lib.ListN.{length};
 ghost use Rattle.arrays.specs.Update.{update, entries, only};
 ghost use Rattle.definitions.specs.Number.{start};
 ghost use Rattle.definitions.specs.Element.{StripOf};
 ghost use Rattle.definitions.specs.declared.Routine.the-variants.{Syrk, Syr2k};
 ghost use Rattle.definitions.proofs.Fits.{Fits};
-ghost use Rattle.packing.specs.Factor.{indexOf, entryOf};
-ghost use Rattle.kernel.specs.Product.{fromColumn, product, trapezoid};
+ghost use Rattle.kernel.specs.Product.{trapezoid};
 ghost use Rattle.rank_update.specs.Options.{isLower, transposedForm};
 use definitions::Call;
 use definitions::Scalar;

@@ -22,7 +22,7 @@ use Rattle.blocks.proofs.TermLaws.{accumulate-same}
 use Rattle.packing.specs.Factor.{Matrix}
 use Rattle.kernel.specs.Product.{halfPacked, corner}
 use Rattle.kernel.proofs.MaskLaws.{moved, is-moved, moved-in, moved-out, joined, apart, lent-mask, nothing-done, mask-alone}
-use Rattle.kernel.proofs.TrapezoidLaws.{Within, is-box, within, inside, row-out}
+use Rattle.kernel.proofs.TrapezoidLaws.{is-box, within, inside, row-out}
 use Rattle.kernel.proofs.PanelLaws.{held}
 use Rattle.triangles.specs.Walk.{slab}
 

@@ -1,7 +1,7 @@
 -- Laws of a walk over a small triangle: a column more, the passes that it takes, some terms more.
 -- Assumes nothing.
 use mathlib.Core.Bool.{Bool, true, false}
-use mathlib.Core.Path.{_≡_, refl, sym, ap, ap₂, _∙_}
+use mathlib.Core.Path.{_≡_, refl, sym, ap, _∙_}
 use mathlib.Core.List.{List}
 use Prim.Native.Nat.{ℕ, _+_, _-_, _*_, _<_, _≤_}
 use native.Mathlib.Nat.{zero-add, add-mul, mul-add, sub-zero}
@@ -10,20 +10,15 @@ use lib.ListN.{length, take, drop}
 use lib.Ieee.{Float, nan}
 use borrow.Rule.Slice.PartMut.{putMid}
 use Rattle.arrays.specs.Choice.{if_then_else_}
-use Rattle.arrays.specs.Update.{update, below, entries, only, region}
+use Rattle.arrays.specs.Update.{update, below, entries, only}
 use Rattle.arrays.proofs.EntryLaws.{entries-keep, only-keep, only-then}
 use Rattle.arrays.proofs.PartLaws.{tail-at}
-use Rattle.floats.specs.Operations.{_⊗_}
 use Rattle.floats.specs.Array.{at}
 use Rattle.blocks.specs.Terms.{packed}
-use Rattle.packing.specs.Factor.{entryOf, along}
-use Rattle.kernel.specs.Product.{turn, fromRow, fromColumn, partly, corner}
+use Rattle.kernel.specs.Product.{corner}
 use Rattle.triangles.specs.Walk.{passes}
-use Rattle.packing.specs.declared.Form.{Form}
-use Rattle.blocks.proofs.TermLaws.{accumulate-none, accumulate-same, accumulate-split, packed-none, packed-more, column-of}
-use Rattle.packing.proofs.FactorLaws.{along-up}
-use Rattle.kernel.proofs.PanelLaws.{held, scaled, turn-up, turn-along}
-use Rattle.kernel.proofs.TrapezoidLaws.{Inside, within, column-more}
+use Rattle.blocks.proofs.TermLaws.{accumulate-same, packed-none, packed-more, column-of}
+use Rattle.kernel.proofs.TrapezoidLaws.{Inside, column-more}
 
 -- ---- the rows from i₀ on, by their part of u
 
