@@ -3,5 +3,7 @@ pub mod UpdateLaws
 pub mod EntryLaws
 pub mod PartLaws
 pub mod RegionLaws
+pub mod MaskLaws
+pub mod TrapezoidLaws
 pub mod FoldLaws
 pub mod SearchLaws

@@ -6,10 +6,13 @@
 --     only       the entry map that keeps the entries outside a mask
 --     box        the mask of the rows below `rows` and the columns below `cols`
 --     region     an entry map on that box
+--     trapezoid  the mask of a triangle, diagonal included, in the columns from `from` on: column j of the part is column from + j of the matrix, and
+--                the part has the rows below `rows` and the columns below `cols`
+--     corner     the same from the matrix's first column on
 --     shifted    an entry map of the block that starts at row i₀ and column j₀
 use mathlib.Core.Bool.{Bool, _&&_}
 use mathlib.Core.List.{List, [], _∷_}
-use Prim.Native.Nat.{ℕ, suc, _-_, _/_, _%_}
+use Prim.Native.Nat.{ℕ, suc, _+_, _-_, _/_, _%_}
 use lib.Dec.{leb, ltb}
 use Rattle.arrays.specs.Choice.{if_then_else_}
 
@@ -40,6 +43,12 @@ box rows cols i j = ltb i rows && ltb j cols
 
 unfoldable pub region : {A : Type 0} → ℕ → ℕ → ℕ → EntryMap A → ℕ → A → A
 region ld rows cols f = entries ld (only (box rows cols) f)
+
+unfoldable pub trapezoid : Bool → ℕ → ℕ → ℕ → Mask
+trapezoid lower from rows cols i j = box rows cols i j && (if lower then leb (from + j) i else leb i (from + j))
+
+abbrev pub corner : Bool → ℕ → ℕ → Mask
+corner lower rows cols = trapezoid lower 0 rows cols
 
 unfoldable pub shifted : {A : Type 0} → ℕ → ℕ → EntryMap A → EntryMap A
 shifted i₀ j₀ f i j x = if leb i₀ i && leb j₀ j then f (i - i₀) (j - j₀) x else x

@@ -14,7 +14,7 @@ use Rattle.definitions.specs.declared.Routine.{Routine}
 use Rattle.definitions.specs.declared.Call.{Call}
 use Rattle.definitions.proofs.Parts.{strip-of-box}
 use Rattle.packing.specs.Factor.{entryOf}
-use Rattle.kernel.specs.Product.{fromColumn, product, partly}
+use Rattle.direct.specs.Product.{fromColumn, product, partly}
 use Rattle.packing.specs.declared.Form.{Form}
 use Rattle.gemm.specs.Sum.{summed}
 

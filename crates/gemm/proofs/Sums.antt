@@ -12,7 +12,7 @@ use Rattle.arrays.proofs.RegionLaws.{region-same, region-then}
 use Rattle.definitions.specs.Number.{isZero, factor, start}
 use Rattle.definitions.specs.declared.Scalar.{Scalar}
 use Rattle.packing.specs.Factor.{Matrix}
-use Rattle.kernel.specs.Product.{fromRow, product}
+use Rattle.direct.specs.Product.{fromRow, product}
 use Rattle.gemm.specs.Sum.{summed}
 
 from-first : (M : Matrix) → fromRow 0 M ≡ M

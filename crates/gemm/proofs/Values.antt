@@ -13,8 +13,8 @@ use Rattle.definitions.specs.declared.Side.the-variants.{Left, Right}
 use Rattle.definitions.specs.declared.Call.{Call}
 use Rattle.packing.specs.declared.Form.the-variants.{Plain}
 use Rattle.blocks.specs.Terms.{accumulate}
-use Rattle.packing.specs.Factor.{Matrix, entryOf}
-use Rattle.kernel.specs.Product.{turn, partly, product}
+use Rattle.packing.specs.Factor.{Matrix, entryOf, turn}
+use Rattle.direct.specs.Product.{partly, product}
 use Rattle.forms.specs.Forms.{opForm, mirroredForm}
 use Rattle.forms.proofs.Entries.{op-entry, mirrored-entry, plain-entry}
 use Rattle.gemm.specs.Sum.{summed}

@@ -8,7 +8,7 @@ use Rattle.arrays.specs.Update.{EntryMap}
 use Rattle.definitions.specs.Number.{isZero, factor, start}
 use Rattle.definitions.specs.declared.Scalar.{Scalar}
 use Rattle.packing.specs.Factor.{Matrix}
-use Rattle.kernel.specs.Product.{product}
+use Rattle.direct.specs.Product.{product}
 
 unfoldable pub summed : Scalar → Scalar → Matrix → Matrix → ℕ → EntryMap Float
 summed alpha beta L R k i j x =

@@ -9,7 +9,7 @@ ghost use Rattle.definitions.specs.Element.{StripOf};
 ghost use Rattle.definitions.specs.declared.Routine.the-variants.{Gemm, Symm};
 ghost use Rattle.definitions.proofs.Fits.{Fits};
 ghost use Rattle.packing.specs.Factor.{indexOf, entryOf};
-ghost use Rattle.kernel.specs.Product.{fromColumn};
+ghost use Rattle.direct.specs.Product.{fromColumn};
 ghost use Rattle.gemm.specs.Sum.{summed};
 use definitions::Call;
 use definitions::Scalar;

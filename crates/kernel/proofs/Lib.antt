@@ -1,4 +1,1 @@
-pub mod MaskLaws
-pub mod TrapezoidLaws
 pub mod PanelLaws
-pub mod DirectLaws

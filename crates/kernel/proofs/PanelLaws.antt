@@ -1,7 +1,7 @@
 -- Laws of a product by panels: what the packed buffers hold, a block of rows more, a panel of terms more.
 -- Assumes nothing.
 use mathlib.Core.Bool.{Bool, true, false}
-use mathlib.Core.Path.{_≡_, refl, sym, ap, ap₂, _∙_}
+use mathlib.Core.Path.{_≡_, refl, ap, ap₂, _∙_}
 use mathlib.Core.List.{List}
 use Prim.Native.Nat.{ℕ, _+_, _-_, _*_, _<_, _≤_}
 use native.Mathlib.Omega.{arith}
@@ -9,26 +9,18 @@ use lib.ListN.{length, take, drop}
 use lib.Ieee.{Float, nan}
 use borrow.Rule.Slice.PartMut.{putMid}
 use Rattle.arrays.specs.Update.{Mask, update, entries, only, box, region}
-use Rattle.arrays.proofs.EntryLaws.{entries-keep, only-keep, only-then}
-use Rattle.arrays.proofs.UpdateLaws.{at-update}
-use Rattle.arrays.proofs.PartLaws.{column-room}
-use Rattle.arrays.proofs.RegionLaws.{region-at, region-same, region-then, region-rows}
+use Rattle.arrays.proofs.EntryLaws.{only-then}
+use Rattle.arrays.proofs.RegionLaws.{region-same, region-then, region-rows}
 use Rattle.floats.specs.Operations.{_⊗_}
-use Rattle.floats.specs.Array.{at}
 use Rattle.blocks.specs.Terms.{packed}
-use Rattle.kernel.specs.Product.{halfPacked, turn, fromColumn, partly}
-use Rattle.kernel.proofs.TrapezoidLaws.{is-box}
-use Rattle.packing.specs.Factor.{Indices, Matrix, entryOf, along}
+use Rattle.kernel.specs.Panels.{halfPacked}
+use Rattle.packing.specs.Factor.{turn, Matrix, entryOf, along}
+use Rattle.direct.specs.Product.{fromColumn, partly}
+use Rattle.arrays.proofs.TrapezoidLaws.{is-box}
 use Rattle.packing.specs.declared.Form.{Form}
-use Rattle.packing.proofs.FactorLaws.{along-up}
-use Rattle.blocks.proofs.TermLaws.{accumulate-none, accumulate-same, accumulate-split}
-
--- what a buffer holds after packing: line x, element y
-pub held : (ld ny nx : ℕ) (M : Matrix) (d₀ d : List Float) (y x : ℕ) → ny ≤ ld → nx * ld ≤ length d₀ → d ≡ update (region ld ny nx (λ y x _. M y x)) d₀
-    → y < ny → x < nx → at d (x * ld + y) ≡ M y x
-held ld ny nx M d₀ d y x hn hl e hy hx =
-    ap (λ (l : List Float). at l (x * ld + y)) e ∙ at-update _ d₀ (x * ld + y) nan (omega (arith, column-room ld hx))
-    ∙ region-at ld ny nx (λ y x _. M y x) y x _ (omega arith) hy hx
+use Rattle.packing.proofs.FactorLaws.{along-up, turn-along}
+use Rattle.packing.proofs.PackLaws.{held}
+use Rattle.blocks.proofs.TermLaws.{accumulate-same, accumulate-split}
 
 -- a block of h rows more: it is packed in u
 pub rows-more : (ld i h cols n : ℕ) (M L : Matrix) (u₀ u t l m ys : List Float)
@@ -44,39 +36,7 @@ rows-more ld i h cols n M L u₀ u t l m ys pos il ll hh hu eu el em ey =
     (ey ∙ region-same ld h cols (packed n u t) (λ r j e. halfPacked n t L (i + r) j e) (take (length m - i) (drop i m)) pos
     (λ r j hr hj e. accumulate-same _ _ _ _ n e (λ q b. refl) (λ q b. held 64 h n M u₀ u r q hh hu eu hr b ∙ el r q)))
 
--- ---- a panel that begins with the l-th of k terms
-
-pub turn-up : {down : Bool} (k q : ℕ) → down ≡ false → turn down k q ≡ q
-unfolding turn
-turn-up k q e = rw e
-
-pub turn-down : {down : Bool} (k q : ℕ) → down ≡ true → turn down k q ≡ k - 1 - q
-unfolding turn
-turn-down k q e = rw e
-
-pub turn-below : (down : Bool) (k q : ℕ) → q < k → turn down k q < k
-unfolding turn
-turn-below false k q h = h
-turn-below true k q h = omega arith
-
--- its q-th term
-pub turn-along : (down : Bool) (k l q : ℕ) {l₀ : ℕ} → l₀ ≡ turn down k l → along down l₀ q ≡ turn down k (l + q)
-unfolding along turn
-turn-along false k l q e = ap (λ (x : ℕ). x + q) e
-turn-along true k l q e = omega (arith, e)
-
--- its terms are numbers of the machine
-pub panel-indices : (down : Bool) (k l n : ℕ) {l₀ : ℕ} → k < 18446744073709551616 → l + n ≤ k → l < k → l₀ ≡ turn down k l → Indices down l₀ n
-panel-indices down k l n hk h b e =
-    record { up = λ d. omega (arith, turn-up k l d, e); back = λ d. omega (arith, turn-down k l d, e) }
-
 -- ---- a panel of terms more, on a mask
-
--- no terms yet
-pub masked-none : (mask : Mask) (alpha : Float) (A B : Matrix) (down : Bool) (k ld : ℕ) (c₀ : List Float)
-    → c₀ ≡ update (entries ld (only mask (partly alpha A B down k 0))) c₀
-unfolding partly
-masked-none mask alpha A B down k ld c₀ = sym (entries-keep ld _ c₀ (λ i j x. only-keep mask _ i j x (accumulate-none _ _ x)))
 
 -- the right block as it is packed and then scaled
 pub scaled : (alpha : Float) (n cols : ℕ) (M : Matrix) (t₀ t₁ t : List Float)
@@ -107,10 +67,6 @@ module _ (mask : Mask) (cols : ℕ) (few : (i j : ℕ) → mask i j ≡ true →
 
 -- the same in a rectangle
 module _ (alpha : Float) (A : Matrix) (fb : Form) (b : List Float) (ldb j₀ : ℕ) (down : Bool) (k ld rows cols : ℕ) where
-  pub partly-none : (c₀ : List Float) → c₀ ≡ update (region ld rows cols (partly alpha A (fromColumn j₀ (entryOf fb b ldb)) down k 0)) c₀
-  unfolding region
-  partly-none c₀ = masked-none (box rows cols) alpha A (fromColumn j₀ (entryOf fb b ldb)) down k ld c₀
-
   pub panel-next : (l n l₀ : ℕ) (c₀ t₀ t₁ t m r : List Float) → 0 < ld → n ≤ 64 → cols * 64 ≤ length t₀ → l₀ ≡ turn down k l
       → m ≡ update (region ld rows cols (partly alpha A (fromColumn j₀ (entryOf fb b ldb)) down k l)) c₀
       → t₁ ≡ update (region 64 n cols (λ y x _. entryOf fb b ldb (along down l₀ y) (along false j₀ x))) t₀

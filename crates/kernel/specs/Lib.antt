@@ -1,1 +1,1 @@
-pub mod Product
+pub mod Panels

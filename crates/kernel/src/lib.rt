@@ -1,12 +1,11 @@
-// Products of blocks of f64, column-major, with every element's terms in order. What they compute is in specs/.
+// The general multiply, column-major, with every element's terms in order: a tiny product straight from the arrays, any other by packed blocks.
 ghost use mathlib.Core.Path.{_≡_};
 ghost use Prim.Native.Nat.{ℕ, _+_, _*_, _≤_, _<_};
 ghost use lib.ListN.{length};
 ghost use Rattle.arrays.specs.Update.{update, region};
 ghost use Rattle.packing.specs.Factor.{indexOf, entryOf};
-ghost use Rattle.kernel.specs.Product.{fromRow, fromColumn, product};
+ghost use Rattle.direct.specs.Product.{fromRow, fromColumn, product};
 
-pub mod direct;
 pub mod panels;
 
 use packing::Form;

@@ -18,11 +18,11 @@ use Rattle.floats.specs.Array.{at}
 use Rattle.floats.specs.Operations.{_⊕_, _⊗_}
 use Rattle.definitions.specs.declared.Transpose.{Transpose}
 use Rattle.definitions.specs.declared.Transpose.the-variants.{No, Yes}
-use Rattle.packing.specs.Factor.{indexOf, entryOf}
+use Rattle.packing.specs.Factor.{indexOf, entryOf, turn}
 use Rattle.packing.specs.declared.Form.{Form}
 use Rattle.packing.specs.declared.Form.the-variants.{Plain}
 use Rattle.blocks.specs.Terms.{accumulate}
-use Rattle.kernel.specs.Product.{turn, partly, product, fromRow, fromColumn}
+use Rattle.direct.specs.Product.{partly, product, fromRow, fromColumn}
 use Rattle.forms.specs.Forms.{opForm}
 use Rattle.lines.specs.Lines.{cell, grid, within, lineTerm}
 use Rattle.lines.proofs.GridLaws.{grid-lent}

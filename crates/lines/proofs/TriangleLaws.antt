@@ -19,9 +19,8 @@ use Rattle.arrays.proofs.RegionLaws.{region-at, region-keep, region-block}
 use Rattle.floats.specs.Array.{at}
 use Rattle.definitions.specs.declared.Transpose.{Transpose}
 use Rattle.definitions.specs.declared.Transpose.the-variants.{No, Yes}
-use Rattle.packing.specs.Factor.{indexOf, entryOf}
-use Rattle.kernel.specs.Product.{turn}
-use Rattle.kernel.proofs.PanelLaws.{turn-up, turn-down, turn-below}
+use Rattle.packing.specs.Factor.{indexOf, entryOf, turn}
+use Rattle.packing.proofs.FactorLaws.{turn-up, turn-down, turn-below}
 use Rattle.forms.specs.Forms.{opForm}
 use Rattle.lines.specs.Lines.{within, coefficient, byColumns, Beside, RowOf, ColumnOf}
 use Rattle.lines.proofs.GridLaws.{by-within}

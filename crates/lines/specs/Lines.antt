@@ -24,10 +24,9 @@ use Rattle.floats.specs.Array.{at}
 use Rattle.floats.specs.Operations.{_⊕_, _⊗_}
 use Rattle.definitions.specs.declared.Transpose.{Transpose}
 use Rattle.definitions.specs.declared.Transpose.the-variants.{No, Yes}
-use Rattle.packing.specs.Factor.{Matrix}
+use Rattle.packing.specs.Factor.{Matrix, turn}
 use Rattle.packing.specs.declared.Form.{Form}
 use Rattle.packing.specs.declared.Form.the-variants.{Plain, Transposed}
-use Rattle.kernel.specs.Product.{turn}
 
 unfoldable pub cell : Bool → ℕ → ℕ → ℕ → ℕ
 cell true ld q l = l * ld + q

@@ -7,8 +7,7 @@ ghost use Rattle.arrays.specs.Choice.{if_then_else_};
 ghost use Rattle.arrays.specs.Update.{update};
 ghost use Rattle.arrays.specs.Fold.{fold};
 ghost use Rattle.floats.specs.Array.{at};
-ghost use Rattle.packing.specs.Factor.{indexOf, entryOf};
-ghost use Rattle.kernel.specs.Product.{turn};
+ghost use Rattle.packing.specs.Factor.{indexOf, entryOf, turn};
 ghost use Rattle.forms.specs.Forms.{opForm};
 ghost use Rattle.lines.specs.Lines.{cell, grid, within, lineForm, lineTerm, Room};
 

@@ -4,12 +4,11 @@ ghost use Prim.Native.Nat.{ℕ, _+_, _-_, _*_, _≤_, _<_};
 ghost use lib.ListN.{length};
 ghost use Rattle.arrays.specs.Choice.{if_then_else_};
 ghost use Rattle.floats.specs.Array.{at};
-ghost use Rattle.packing.specs.Factor.{indexOf, entryOf};
-ghost use Rattle.kernel.specs.Product.{turn};
+ghost use Rattle.packing.specs.Factor.{indexOf, entryOf, turn};
 ghost use Rattle.forms.specs.Forms.{opForm};
 ghost use Rattle.lines.specs.Lines.{coefficient, byColumns, Beside, RowOf, ColumnOf};
 use definitions::Transpose;
-use kernel::panels;
+use packing::factor;
 use packing::runs;
 
 // The first of the elements after element k, or before it.
@@ -79,7 +78,7 @@ fn by_rows(after: bool, down: bool, a: &[f64], lda: usize, x0: usize, n: usize, 
         let lo = first_beside(after, k);
         let count = count_beside(after, n, k);
         let from = (x0 + k) * lda + (x0 + lo);
-        let q = panels::turn_of(down, n, k);
+        let q = factor::turn_of(down, n, k);
         in_column(q, lo, count, &a[from..], v);
         k += 1;
     }

@@ -1,11 +1,11 @@
 -- Laws of a factor's entries.
 -- Assumes nothing.
 use mathlib.Core.Bool.{Bool, true, false, true≢false}
-use mathlib.Core.Path.{_≡_, refl, sym}
+use mathlib.Core.Path.{_≡_, refl, sym, ap}
 use Prim.Native.Nat.{ℕ, _+_, _-_, _*_, _<_, _≤_}
 use native.Mathlib.Omega.{arith}
 use borrow.Author.Tests.{le-leb, lt-leb}
-use Rattle.packing.specs.Factor.{Indices, Within, isMirrored, isLower, mirroredForm, indexOf, along}
+use Rattle.packing.specs.Factor.{Indices, Within, isMirrored, isLower, mirroredForm, indexOf, along, turn}
 use Rattle.packing.specs.declared.Form.{Form}
 use Rattle.packing.specs.declared.Form.the-variants.{Plain, Transposed, Lower, Upper}
 
@@ -90,3 +90,29 @@ upward from n h = record { up = λ _. h; back = λ d. let z : _≡_ {A = ℕ} 0 
 pub up-from : (i₀ i y : ℕ) → along false (i₀ + i) y ≡ i₀ + (i + y)
 unfolding along
 up-from i₀ i y = omega arith
+
+-- ---- the terms of a panel, which begins with the l-th of k
+
+pub turn-up : {down : Bool} (k q : ℕ) → down ≡ false → turn down k q ≡ q
+unfolding turn
+turn-up k q e = rw e
+
+pub turn-down : {down : Bool} (k q : ℕ) → down ≡ true → turn down k q ≡ k - 1 - q
+unfolding turn
+turn-down k q e = rw e
+
+pub turn-below : (down : Bool) (k q : ℕ) → q < k → turn down k q < k
+unfolding turn
+turn-below false k q h = h
+turn-below true k q h = omega arith
+
+-- its q-th term
+pub turn-along : (down : Bool) (k l q : ℕ) {l₀ : ℕ} → l₀ ≡ turn down k l → along down l₀ q ≡ turn down k (l + q)
+unfolding along turn
+turn-along false k l q e = ap (λ (x : ℕ). x + q) e
+turn-along true k l q e = omega (arith, e)
+
+-- its terms are numbers of the machine
+pub panel-indices : (down : Bool) (k l n : ℕ) {l₀ : ℕ} → k < 18446744073709551616 → l + n ≤ k → l < k → l₀ ≡ turn down k l → Indices down l₀ n
+panel-indices down k l n hk h b e =
+    record { up = λ d. omega (arith, turn-up k l d, e); back = λ d. omega (arith, turn-down k l d, e) }

@@ -3,6 +3,7 @@
 --               triangle is read, diagonal included, and the other entries are mirrored
 --     entryOf   entry (i, j) of a factor
 --     along     the q-th index from `from` on, up or down
+--     turn      the index of the term that comes q-th of k: from the first up, or from the last down
 --     Indices   the n indices from `from` on, up or down, are numbers of the machine
 --     Within    these indices are places of an array of len elements
 --     isMirrored, isLower, mirroredForm   a form that mirrors a triangle, and which one
@@ -35,6 +36,10 @@ entryOf form a ld i j = at a (indexOf form ld i j)
 unfoldable pub along : Bool → ℕ → ℕ → ℕ
 along false from q = from + q
 along true from q = from - q
+
+unfoldable pub turn : Bool → ℕ → ℕ → ℕ
+turn false k q = q
+turn true k q = k - 1 - q
 
 pub record Indices (down : Bool) (from n : ℕ) : Type 0 where
   pub up : down ≡ false → from + n < 18446744073709551616

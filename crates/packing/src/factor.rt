@@ -1,7 +1,7 @@
 // The places of a factor's entries.
 ghost use mathlib.Core.Path.{_≡_};
 ghost use Prim.Native.Nat.{_+_, _<_};
-ghost use Rattle.packing.specs.Factor.{Indices, indexOf, along};
+ghost use Rattle.packing.specs.Factor.{Indices, indexOf, along, turn};
 use super::Form;
 
 // The place of entry (i, j) in an array that holds a factor in a form.
@@ -23,4 +23,12 @@ pub fn step(down: bool, from: usize, q: usize) -> usize
     ensures { λ r. ⌜ r ≡ along down from q ⌝ }
 {
     if down { from - q } else { from + q }
+}
+
+// The index of the term that comes q-th of k.
+pub fn turn_of(down: bool, k: usize, q: usize) -> usize
+    requires { ⌜ q < k ⌝ }
+    ensures { λ r. ⌜ (r ≡ turn down k q) × (r < k) ⌝ }
+{
+    if down { k - 1 - q } else { q }
 }

@@ -6,7 +6,7 @@ use mathlib.Core.Bool.{Bool, false, _&&_}
 use mathlib.Core.List.{List}
 use native.Mathlib.Omega.{arith}
 use lib.Ieee.{Float}
-use Rattle.arrays.specs.Update.{EntryMap, Mask, update, entries, only, box}
+use Rattle.arrays.specs.Update.{EntryMap, Mask, update, entries, only, box, trapezoid}
 use Rattle.arrays.proofs.Tests.{if-false}
 use Rattle.definitions.specs.Number.{isZero}
 use Rattle.definitions.specs.Storage.{inside}
@@ -24,7 +24,6 @@ use Rattle.packing.specs.declared.Form.{Form}
 use Rattle.packing.specs.Factor.{indexOf}
 use Rattle.forms.specs.Forms.{opForm}
 use Rattle.forms.proofs.Rooms.{op-inside, some-term}
-use Rattle.kernel.specs.Product.{trapezoid}
 use Rattle.rank_update.specs.Options.{isLower, transposedForm}
 
 -- an entry of the transpose of op(A), where op(A) is p by q

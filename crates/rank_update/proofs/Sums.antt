@@ -18,8 +18,8 @@ use Rattle.definitions.specs.declared.Transpose.{Transpose}
 use Rattle.definitions.specs.declared.Transpose.the-variants.{No, Yes}
 use Rattle.definitions.specs.declared.Call.{Call}
 use Rattle.blocks.specs.Terms.{accumulate}
-use Rattle.packing.specs.Factor.{Matrix, indexOf, entryOf}
-use Rattle.kernel.specs.Product.{turn, fromColumn, partly, product}
+use Rattle.packing.specs.Factor.{Matrix, indexOf, entryOf, turn}
+use Rattle.direct.specs.Product.{fromColumn, partly, product}
 use Rattle.forms.specs.Forms.{opForm}
 use Rattle.forms.proofs.Entries.{op-entry}
 use Rattle.rank_update.specs.Options.{transposedForm}

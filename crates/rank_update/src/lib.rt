@@ -2,12 +2,11 @@
 ghost use mathlib.Core.Path.{_≡_};
 ghost use Prim.Native.Nat.{_+_, _*_, _≤_, _<_};
 ghost use lib.ListN.{length};
-ghost use Rattle.arrays.specs.Update.{update, entries, only};
+ghost use Rattle.arrays.specs.Update.{update, entries, only, trapezoid};
 ghost use Rattle.definitions.specs.Number.{start};
 ghost use Rattle.definitions.specs.Element.{StripOf};
 ghost use Rattle.definitions.specs.declared.Routine.the-variants.{Syrk, Syr2k};
 ghost use Rattle.definitions.proofs.Fits.{Fits};
-ghost use Rattle.kernel.specs.Product.{trapezoid};
 ghost use Rattle.rank_update.specs.Options.{isLower, transposedForm};
 use definitions::Call;
 use definitions::Scalar;

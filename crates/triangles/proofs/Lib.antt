@@ -1,2 +1,1 @@
-pub mod TriangleLaws
 pub mod SlabLaws

@@ -12,7 +12,7 @@ use lib.ListN.{length, take, drop}
 use borrow.Rule.Slice.PartMut.{putMid}
 use borrow.Author.Tests.{leb-true, le-leb}
 use Rattle.arrays.specs.Choice.{if_then_else_}
-use Rattle.arrays.specs.Update.{EntryMap, update, entries, only, box, region}
+use Rattle.arrays.specs.Update.{EntryMap, update, entries, only, box, region, corner}
 use Rattle.arrays.proofs.Tests.{and-left, and-right}
 use Rattle.arrays.proofs.UpdateLaws.{lt-or-ge}
 use Rattle.arrays.proofs.EntryLaws.{box-in, box-row-out, box-column-out}
@@ -20,11 +20,11 @@ use Rattle.floats.specs.Array.{at}
 use Rattle.blocks.specs.Terms.{packed}
 use Rattle.blocks.proofs.TermLaws.{accumulate-same}
 use Rattle.packing.specs.Factor.{Matrix}
-use Rattle.kernel.specs.Product.{halfPacked, corner}
-use Rattle.kernel.proofs.MaskLaws.{moved, is-moved, moved-in, moved-out, joined, apart, lent-mask, nothing-done, mask-alone}
-use Rattle.kernel.proofs.TrapezoidLaws.{is-box, within, inside, row-out}
-use Rattle.kernel.proofs.PanelLaws.{held}
-use Rattle.triangles.specs.Walk.{slab}
+use Rattle.kernel.specs.Panels.{halfPacked}
+use Rattle.arrays.proofs.MaskLaws.{moved, is-moved, moved-in, moved-out, joined, apart, lent-mask, nothing-done, mask-alone}
+use Rattle.arrays.proofs.TrapezoidLaws.{is-box, within, inside, row-out}
+use Rattle.packing.proofs.PackLaws.{held}
+use Rattle.triangles.specs.Slab.{slab}
 
 -- ---- the entries of the rows
 

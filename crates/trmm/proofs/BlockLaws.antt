@@ -22,10 +22,10 @@ use Rattle.definitions.specs.Storage.{withDiagonal}
 use Rattle.definitions.specs.declared.Diagonal.{Diagonal}
 use Rattle.definitions.specs.declared.Transpose.{Transpose}
 use Rattle.definitions.specs.declared.Transpose.the-variants.{No}
-use Rattle.packing.specs.Factor.{Matrix, indexOf, entryOf}
+use Rattle.packing.specs.Factor.{Matrix, indexOf, entryOf, turn}
 use Rattle.packing.specs.declared.Form.{Form}
 use Rattle.packing.specs.declared.Form.the-variants.{Plain}
-use Rattle.kernel.specs.Product.{turn, partly, product, fromRow, fromColumn}
+use Rattle.direct.specs.Product.{partly, product, fromRow, fromColumn}
 use Rattle.forms.specs.Forms.{opForm}
 use Rattle.lines.specs.Lines.{cell, grid, within, lineTerm, Room}
 use Rattle.lines.proofs.GridLaws.{cell-inside, grid-then, grid-same, grid-keep, grid-at}

@@ -211,7 +211,7 @@ fn multiply_lines(
         return;
     }
     let f = alpha.factor();
-    if kernel::direct::tiny(m, lines, m) {
+    if direct::tiny(m, lines, m) {
         sum_elements(left, after, diag, f, t, a, lda, b, ld, m, lines);
         return;
     }

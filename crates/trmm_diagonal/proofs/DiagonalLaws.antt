@@ -24,8 +24,7 @@ use Rattle.definitions.specs.declared.Diagonal.{Diagonal}
 use Rattle.definitions.specs.declared.Diagonal.the-variants.{Unit, Nonunit}
 use Rattle.definitions.specs.declared.Transpose.{Transpose}
 use Rattle.definitions.specs.declared.Transpose.the-variants.{No, Yes}
-use Rattle.packing.specs.Factor.{Matrix, indexOf, entryOf}
-use Rattle.kernel.specs.Product.{turn}
+use Rattle.packing.specs.Factor.{Matrix, indexOf, entryOf, turn}
 use Rattle.forms.specs.Forms.{opForm}
 use Rattle.lines.specs.Lines.{cell, grid, lineTerm, coefficient, Beside}
 use Rattle.lines.proofs.GridLaws.{grid-at, grid-same}

@@ -15,8 +15,7 @@ use Rattle.floats.specs.Array.{at}
 use Rattle.floats.specs.Operations.{−1f}
 use Rattle.definitions.specs.Element.{divided}
 use Rattle.definitions.specs.declared.Diagonal.{Diagonal}
-use Rattle.packing.specs.Factor.{Matrix}
-use Rattle.kernel.specs.Product.{turn}
+use Rattle.packing.specs.Factor.{Matrix, turn}
 use Rattle.lines.specs.Lines.{cell, grid, within, lineTerm, Room}
 use Rattle.lines.proofs.GridLaws.{grid-at}
 use Rattle.trsm_diagonal.specs.Solve.{first, ordered, front, solveTerm, solveEnd, blockValue}

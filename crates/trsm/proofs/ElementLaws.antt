@@ -16,10 +16,9 @@ use Rattle.floats.specs.Operations.{−1f}
 use Rattle.definitions.specs.Element.{divided}
 use Rattle.definitions.specs.declared.Diagonal.{Diagonal}
 use Rattle.definitions.specs.declared.Transpose.{Transpose}
-use Rattle.packing.specs.Factor.{Matrix, indexOf, entryOf, along}
+use Rattle.packing.specs.Factor.{Matrix, indexOf, entryOf, along, turn}
 use Rattle.forms.specs.Forms.{opForm}
-use Rattle.kernel.specs.Product.{turn}
-use Rattle.kernel.proofs.PanelLaws.{turn-along, turn-below}
+use Rattle.packing.proofs.FactorLaws.{turn-along, turn-below}
 use Rattle.lines.specs.Lines.{cell, within, coefficient, Room}
 use Rattle.elements.specs.Sums.{termOf, begun, finished, lineSum, Summed}
 use Rattle.elements.specs.declared.Start.the-variants.{Value}

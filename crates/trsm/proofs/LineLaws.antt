@@ -16,8 +16,7 @@ use Rattle.definitions.specs.Number.{isZero, factor}
 use Rattle.definitions.specs.Element.{byZero}
 use Rattle.definitions.specs.declared.Diagonal.{Diagonal}
 use Rattle.definitions.specs.declared.Scalar.{Scalar}
-use Rattle.packing.specs.Factor.{Matrix}
-use Rattle.kernel.specs.Product.{turn}
+use Rattle.packing.specs.Factor.{Matrix, turn}
 use Rattle.lines.specs.Lines.{cell, grid}
 use Rattle.lines.proofs.GridLaws.{grid-same}
 use Rattle.trsm_diagonal.specs.Solve.{ordered, front, solveTerm, solveEnd}

@@ -16,10 +16,9 @@ use Rattle.floats.specs.Array.{at}
 use Rattle.floats.specs.Operations.{−1f}
 use Rattle.definitions.specs.declared.Diagonal.{Diagonal}
 use Rattle.definitions.specs.declared.Transpose.{Transpose}
-use Rattle.packing.specs.Factor.{Matrix, indexOf}
+use Rattle.packing.specs.Factor.{Matrix, indexOf, turn}
 use Rattle.forms.specs.Forms.{opForm}
-use Rattle.kernel.specs.Product.{turn}
-use Rattle.kernel.proofs.PanelLaws.{turn-below}
+use Rattle.packing.proofs.FactorLaws.{turn-below}
 use Rattle.lines.specs.Lines.{cell, grid, within, lineTerm, Room}
 use Rattle.lines.proofs.GridLaws.{grid-same, grid-at}
 use Rattle.trsm_diagonal.specs.Solve.{first, ordered, front, solveTerm, solveEnd}

@@ -23,8 +23,8 @@ use Rattle.definitions.specs.declared.Side.the-variants.{Left, Right}
 use Rattle.definitions.specs.declared.Diagonal.{Diagonal}
 use Rattle.definitions.specs.declared.Diagonal.the-variants.{Unit, Nonunit}
 use Rattle.definitions.specs.declared.Call.{Call}
-use Rattle.kernel.specs.Product.{turn}
-use Rattle.kernel.proofs.PanelLaws.{turn-below}
+use Rattle.packing.specs.Factor.{turn}
+use Rattle.packing.proofs.FactorLaws.{turn-below}
 use Rattle.lines.specs.Lines.{lineTerm}
 use Rattle.trsm_diagonal.specs.Solve.{next, solution, solveTerm, solveEnd}
 use Rattle.trsm.specs.Steps.{goesDown, lineValue}

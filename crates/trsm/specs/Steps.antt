@@ -18,8 +18,7 @@ use Rattle.definitions.specs.declared.Side.{Side}
 use Rattle.definitions.specs.declared.Transpose.{Transpose}
 use Rattle.definitions.specs.declared.Triangle.{Triangle}
 use Rattle.definitions.specs.declared.Diagonal.{Diagonal}
-use Rattle.packing.specs.Factor.{Matrix}
-use Rattle.kernel.specs.Product.{turn}
+use Rattle.packing.specs.Factor.{Matrix, turn}
 use Rattle.trsm_diagonal.specs.Solve.{solution, solving, solveTerm, solveEnd}
 
 unfoldable pub goesDown : Side → Transpose → Triangle → Bool

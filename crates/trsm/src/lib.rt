@@ -30,7 +30,7 @@ use definitions::Side;
 use definitions::Transpose;
 use elements::End;
 use elements::Start;
-use kernel::panels;
+use packing::factor;
 
 // How many sums take terms at a time: all of them for side L, at most 256 for side R.
 fn reach(left: bool, m: usize) -> usize
@@ -211,7 +211,7 @@ fn solve_element(
     requires { ⌜ ((i j : ℕ) → i < m → j < m → indexOf (opForm t) lda i j < length (now a)) ⌝ }
     ensures { λ _. ⌜ Step left down ld m lines diag (entryOf (opForm t) (now (a .entry)) lda) (λ k. front j j (front m 0 k)) (λ k. front (j + 1) (j + 1) (front m 0 k)) (now (b .entry)) (now (b .exit)) ⌝ }
 {
-    let i = panels::turn_of(down, m, j);
+    let i = factor::turn_of(down, m, j);
     let k = i * lda + i;
     elements::element(
         left,
@@ -227,7 +227,7 @@ fn solve_element(
         a,
         lda,
         down,
-        panels::turn_of(down, m, 0),
+        factor::turn_of(down, m, 0),
         j,
     );
 }
@@ -254,7 +254,7 @@ fn solve_elements(
     let mut zero = m;
     let mut j = 0;
     while j < m {
-        let i = panels::turn_of(down, m, j);
+        let i = factor::turn_of(down, m, j);
         solve_element(left, down, diag, b, ld, m, lines, t, a, lda, j);
         zero = trsm_diagonal::lower(zero, ends_by_zero(diag, a, i * lda + i), i);
         j += 1;
@@ -290,7 +290,7 @@ fn solve_lines(
         return m;
     }
     pass::scale(b, ld, rows, cols, alpha.factor());
-    if kernel::direct::tiny(m, lines, m) {
+    if direct::tiny(m, lines, m) {
         return solve_elements(left, down, diag, b, ld, m, lines, t, a, lda);
     }
     solve(left, down, diag, b, ld, m, lines, t, a, lda, r)

@@ -20,10 +20,9 @@ use Rattle.floats.specs.Array.{at}
 use Rattle.floats.specs.Operations.{_⊕_, _⊗_}
 use Rattle.definitions.specs.Element.{divided}
 use Rattle.definitions.specs.declared.Diagonal.{Diagonal}
-use Rattle.packing.specs.Factor.{Matrix}
+use Rattle.packing.specs.Factor.{Matrix, turn}
 use Rattle.blocks.specs.Terms.{accumulate, packed}
-use Rattle.kernel.specs.Product.{turn}
-use Rattle.kernel.proofs.PanelLaws.{turn-below}
+use Rattle.packing.proofs.FactorLaws.{turn-below}
 use Rattle.lines.specs.Lines.{cell, grid, within, Room}
 use Rattle.lines.proofs.GridLaws.{by-within, grid-same, grid-keep, grid-at, grid-lent}
 use Rattle.trsm_diagonal.specs.Solve.{first, ordered, sumAfter, solution, stateOf, solving, front, solveEnd, valueFactor, packedTerm, packedValue}

@@ -18,11 +18,10 @@ use Rattle.arrays.proofs.PartLaws.{tail-at, tail-length}
 use Rattle.floats.specs.Array.{at}
 use Rattle.definitions.specs.declared.Transpose.{Transpose}
 use Rattle.definitions.specs.declared.Transpose.the-variants.{No, Yes}
-use Rattle.packing.specs.Factor.{indexOf, entryOf}
+use Rattle.packing.specs.Factor.{indexOf, entryOf, turn}
 use Rattle.packing.specs.declared.Form.the-variants.{Plain}
 use Rattle.forms.specs.Forms.{opForm}
-use Rattle.kernel.specs.Product.{turn}
-use Rattle.kernel.proofs.PanelLaws.{turn-below}
+use Rattle.packing.proofs.FactorLaws.{turn-below}
 use Rattle.lines.specs.Lines.{cell, grid, within, Room}
 use Rattle.lines.proofs.GridLaws.{within-in, within-before, within-after, by-within, grid-same, grid-lent}
 use Rattle.trsm_diagonal.specs.Solve.{first, ordered, solution, stateOf, solving, front}

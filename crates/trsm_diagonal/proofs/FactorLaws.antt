@@ -16,9 +16,8 @@ use Rattle.floats.proofs.Laws.{⊗-comm}
 use Rattle.definitions.specs.Element.{divided}
 use Rattle.definitions.specs.declared.Diagonal.{Diagonal}
 use Rattle.definitions.specs.declared.Diagonal.the-variants.{Unit, Nonunit}
-use Rattle.packing.specs.Factor.{Matrix}
-use Rattle.kernel.specs.Product.{turn}
-use Rattle.kernel.proofs.PanelLaws.{turn-below}
+use Rattle.packing.specs.Factor.{Matrix, turn}
+use Rattle.packing.proofs.FactorLaws.{turn-below}
 use Rattle.lines.specs.Lines.{cell, grid, lineTerm, coefficient, Beside}
 use Rattle.lines.proofs.GridLaws.{grid-at}
 use Rattle.trsm_diagonal.specs.Solve.{sumAfter, solveTerm, solveEnd, valueFactor, matrixFactor, packedTerm, blockValue, packedValue}

@@ -9,8 +9,8 @@ use native.Mathlib.Omega.{arith}
 use lib.ListN.{length, getD}
 use Rattle.arrays.specs.Update.{update}
 use Rattle.arrays.proofs.UpdateLaws.{lt-or-ge}
-use Rattle.kernel.specs.Product.{turn}
-use Rattle.kernel.proofs.PanelLaws.{turn-below}
+use Rattle.packing.specs.Factor.{turn}
+use Rattle.packing.proofs.FactorLaws.{turn-below}
 use Rattle.lines.specs.Lines.{cell, within, Room}
 use Rattle.lines.proofs.GridLaws.{within-in, within-before, within-after, grid-then, grid-same, grid-same-at, grid-at}
 use Rattle.trsm_diagonal.specs.Solve.{first, ordered}

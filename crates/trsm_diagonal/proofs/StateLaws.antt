@@ -13,7 +13,7 @@ use Rattle.arrays.specs.Update.{update}
 use Rattle.arrays.specs.Fold.{fold}
 use Rattle.arrays.proofs.UpdateLaws.{lt-or-ge}
 use Rattle.arrays.proofs.FoldLaws.{fold-none, fold-split, fold-same, solved-at}
-use Rattle.kernel.specs.Product.{turn}
+use Rattle.packing.specs.Factor.{turn}
 use Rattle.lines.specs.Lines.{cell, within, Room}
 use Rattle.lines.proofs.GridLaws.{by-within}
 use Rattle.trsm_diagonal.specs.Solve.{ordered, next, solution, sumAfter, stateOf, solving, front}

@@ -15,9 +15,8 @@ use Rattle.arrays.proofs.UpdateLaws.{lt-or-ge}
 use Rattle.arrays.proofs.SearchLaws.{lowest-is, lowest-same, lowest-none, lower-joins}
 use Rattle.definitions.specs.Element.{byZero}
 use Rattle.definitions.specs.declared.Diagonal.{Diagonal}
-use Rattle.packing.specs.Factor.{Matrix}
-use Rattle.kernel.specs.Product.{turn}
-use Rattle.kernel.proofs.PanelLaws.{turn-below}
+use Rattle.packing.specs.Factor.{Matrix, turn}
+use Rattle.packing.proofs.FactorLaws.{turn-below}
 use Rattle.lines.specs.Lines.{within}
 use Rattle.lines.proofs.GridLaws.{within-in}
 use Rattle.trsm_diagonal.specs.Solve.{first, zeroAmong}

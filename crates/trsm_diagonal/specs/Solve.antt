@@ -25,8 +25,7 @@ use Rattle.floats.specs.Array.{at}
 use Rattle.floats.specs.Operations.{_⊕_, _⊗_, −1f}
 use Rattle.definitions.specs.Element.{divided, byZero}
 use Rattle.definitions.specs.declared.Diagonal.{Diagonal}
-use Rattle.packing.specs.Factor.{Matrix}
-use Rattle.kernel.specs.Product.{turn}
+use Rattle.packing.specs.Factor.{Matrix, turn}
 use Rattle.lines.specs.Lines.{grid, lineTerm}
 
 unfoldable pub first : Bool → ℕ → ℕ → ℕ → ℕ

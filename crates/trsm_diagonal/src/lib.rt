@@ -9,10 +9,9 @@ ghost use Rattle.arrays.specs.Search as Search;
 ghost use Rattle.arrays.specs.Search.{Lowest};
 ghost use Rattle.floats.specs.Array.{at};
 ghost use Rattle.definitions.specs.Element.{divided, byZero};
-ghost use Rattle.packing.specs.Factor.{indexOf, entryOf};
+ghost use Rattle.packing.specs.Factor.{indexOf, entryOf, turn};
 ghost use Rattle.packing.specs.declared.Form.the-variants.{Plain};
 ghost use Rattle.blocks.specs.Terms.{packed};
-ghost use Rattle.kernel.specs.Product.{turn};
 ghost use Rattle.forms.specs.Forms.{opForm};
 ghost use Rattle.lines.specs.Lines.{cell, grid, coefficient, Room};
 ghost use Rattle.trsm_diagonal.specs.Solve.{first, ordered, valueFactor, matrixFactor, blockValue, packedValue};
@@ -20,8 +19,8 @@ use blocks::block;
 use blocks::pass;
 use definitions::Diagonal;
 use definitions::Transpose;
-use kernel::panels;
 use lines::triangle;
+use packing::factor;
 use packing::runs;
 
 // The least index of the unknowns from the p-th on, n of them.
@@ -123,7 +122,7 @@ fn solve_unknowns(
     let mut zero = n;
     let mut j = 0;
     while j < n {
-        let i = panels::turn_of(down, n, j);
+        let i = factor::turn_of(down, n, j);
         let to = i * ld;
         let row = i * 64;
         let x = j * 64;

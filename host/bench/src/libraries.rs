@@ -17,7 +17,7 @@ enum Routines {
 }
 
 /// The builds of this library, by the value of THAMRUNLEK_CPU that takes them.
-pub const BUILDS: [&str; 3] = ["x86-64", "x86-64-v3", "x86-64-v4"];
+const BUILDS: [&str; 3] = ["x86-64", "x86-64-v3", "x86-64-v4"];
 
 /// OpenBLAS as it chooses by itself, and with its kernels for SSE, AVX2 and AVX-512, by its own names for them.
 const KERNELS: [(&str, Option<&str>); 4] = [

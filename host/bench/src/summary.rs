@@ -1,6 +1,6 @@
 //! Every routine at small and large orders, in one line each: against the peers, and against GEMM of the same build.
 
-use crate::libraries::{Library, BUILDS};
+use crate::libraries::Library;
 use crate::measure::{median, Race};
 use crate::problem::{variants, Problem};
 use thamrunlek::Routine;
@@ -17,59 +17,58 @@ fn rounds(n: usize) -> usize {
     }
 }
 
-/// The rates of the libraries for a routine of order n: a row for each variant of its options.
-fn rates(routine: Routine, n: usize, libraries: &[Library]) -> Vec<Vec<f64>> {
-    let row = |options: &&'static [u8]| {
-        let mut race = Race::new(Problem::new(routine, options, n), libraries);
-        race.run(rounds(n));
-        race.medians().into_iter().map(|time| race.problem.rate(time)).collect()
-    };
-    variants(routine).iter().map(row).collect()
+/// Two problems, the second for the builds of this library alone: the rates of the libraries for each. The two take
+/// turns, batch by batch, as the libraries do.
+fn rates(problems: [Problem; 2], libraries: &[Library], builds: &[Library]) -> [Vec<f64>; 2] {
+    let [first, second] = problems;
+    let rounds = rounds(first.n.max(second.n));
+    let mut races = [Race::new(first, libraries), Race::new(second, builds)];
+    for _ in 0..rounds {
+        races.iter_mut().for_each(|race| race.run(1));
+    }
+    races.map(|race| race.medians().into_iter().map(|time| race.problem.rate(time)).collect())
 }
 
-/// The median over the variants of the first library's rate divided by the other's.
-fn ratio(rates: &[Vec<f64>], first: usize, other: usize) -> f64 {
-    median(rates.iter().map(|row| row[first] / row[other]).collect())
+/// GEMM without transposes.
+fn gemm(n: usize) -> Problem {
+    Problem::new(Routine::Gemm, b"NN", n)
 }
 
 /// Prints a line for each routine and order, and the growth of GEMM.
 pub fn report(libraries: Vec<Library>) {
     let wanted = |library: &Library| library.own().is_some() || ["netlib", "OB-SSE"].contains(&library.name);
     let libraries: Vec<Library> = libraries.into_iter().filter(wanted).collect();
-    let place = |name: &str| libraries.iter().position(|library| library.name == name);
-    let builds: Vec<usize> = BUILDS.iter().filter_map(|name| place(name)).collect();
-    let peers = [("netlib", builds.as_slice()), ("OB-SSE", &builds[..1])];
+    let builds: &[Library] = &libraries[..libraries.iter().filter(|library| library.own().is_some()).count()];
+    let peers = [("netlib", builds), ("OB-SSE", &builds[..1])].map(|(name, builds)| {
+        let place = libraries.iter().position(|library| library.name == name);
+        (name, place.expect("a peer"), builds)
+    });
     println!("rates divided, medians over the options of each routine, at w = r = 0: above 1 the build is faster");
     print!("{:7}{:>5}", "routine", "n");
-    for (peer, builds) in peers {
-        builds.iter().for_each(|&build| print!("{:>19}", format!("{}/{peer}", libraries[build].name)));
+    for (peer, _, builds) in peers {
+        builds.iter().for_each(|build| print!("{:>19}", format!("{}/{peer}", build.name)));
     }
-    builds.iter().for_each(|&build| print!("{:>16}", format!("{}/GEMM", libraries[build].name)));
+    builds.iter().for_each(|build| print!("{:>16}", format!("{}/GEMM", build.name)));
     println!();
     for n in ORDERS {
-        let gemm = rates(Routine::Gemm, n, &libraries);
         for routine in Routine::ALL {
-            let rates = if routine == Routine::Gemm { gemm.clone() } else { rates(routine, n, &libraries) };
+            let row = |options: &&'static [u8]| rates([Problem::new(routine, options, n), gemm(n)], &libraries, builds);
+            let rows: Vec<[Vec<f64>; 2]> = variants(routine).iter().map(row).collect();
             print!("{:7}{n:5}", routine.name());
-            for (peer, builds) in peers {
-                let peer = place(peer).expect("a peer");
-                builds.iter().for_each(|&build| print!("{:19.2}", ratio(&rates, build, peer)));
+            for (_, peer, builds) in peers {
+                for build in 0..builds.len() {
+                    print!("{:19.2}", median(rows.iter().map(|[own, _]| own[build] / own[peer]).collect()));
+                }
             }
-            for &build in &builds {
-                let own = median(rates.iter().map(|row| row[build]).collect());
-                print!("{:16.2}", own / gemm[0][build]);
+            for build in 0..builds.len() {
+                print!("{:16.2}", median(rows.iter().map(|[own, gemm]| own[build] / gemm[build]).collect()));
             }
             println!();
         }
     }
-    let [small, large] = GROWTH.map(|n| rates(Routine::Gemm, n, &libraries));
-    for &build in &builds {
-        let (small, large) = (small[0][build], large[0][build]);
+    let [small, large] = rates(GROWTH.map(gemm), builds, builds);
+    for (build, (small, large)) in builds.iter().zip(small.into_iter().zip(large)) {
         let [m, n] = GROWTH;
-        println!(
-            "GEMM, N N, {}: {small:.2} GFLOP/s at {m}, {large:.2} at {n}, {:.2} of it",
-            libraries[build].name,
-            large / small
-        );
+        println!("GEMM, N N, {}: {small:.2} GFLOP/s at {m}, {large:.2} at {n}, {:.2} of it", build.name, large / small);
     }
 }

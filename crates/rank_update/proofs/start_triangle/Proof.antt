@@ -3,14 +3,14 @@
 use Prim.Native.Nat.{ℕ, _≤_, _-_, _+_, _*_}
 use mathlib.Core.Path.{_≡_, refl, ap, _∙_}
 use native.Mathlib.Omega.{arith}
+use lib.Ieee.{nan}
 use lib.ListN.{length}
 use borrow.Author.Needs.{needs}
-use Rattle.arrays.specs.Update.{update, entries, only}
+use Rattle.arrays.specs.Update.{update, entries, only, trapezoid}
 use Rattle.arrays.proofs.PartLaws.{tail-length, column-room}
 use Rattle.arrays.proofs.UpdateLaws.{length-update}
 use Rattle.definitions.specs.Number.{start}
-use Rattle.kernel.specs.Product.{trapezoid}
-use Rattle.kernel.proofs.TrapezoidLaws.{none-yet, rows-room, column-more}
+use Rattle.arrays.proofs.TrapezoidLaws.{none-yet, rows-room, column-more}
 use Rattle.rank_update.proofs.start_triangle.Statement.{statement}
 use Rattle.rank_update.proofs.start_triangle.Tie as tie
 
@@ -83,7 +83,7 @@ loop-less c = search needs
 loop-again : tie.Need-loop-again Inv-loop μ-loop
 loop-again c =
     let t = turn (c .before .before .before .before) in
-    let e = column-more _ _ _ _ _ _ refl (omega arith) _ _ _ _ _ _ _ _ (c .before .before .before .before .before .pick .ensures, c .before .before .before .before .pick2 .ensures) (omega arith) (omega arith) refl (omega (arith, t)) (c .before .before .before .before .before .before .before .loop .inv .2) (c .before .before .column .ensures) (λ i x. refl) in
+    let e = column-more _ _ _ _ _ _ refl (omega arith) nan _ _ _ _ _ _ _ _ (c .before .before .before .before .before .pick .ensures, c .before .before .before .before .pick2 .ensures) (omega arith) (omega arith) refl (omega (arith, t)) (c .before .before .before .before .before .before .before .loop .inv .2) (c .before .before .column .ensures) (λ i x. refl) in
     (omega arith, ap length e ∙ length-update _ _, e)
 
 same-length : tie.Need-same-length Inv-loop μ-loop

@@ -6,13 +6,14 @@ use mathlib.Core.Path.{_≡_, refl, sym, ap, _∙_}
 use native.Mathlib.Omega.{arith}
 use lib.ListN.{length}
 use borrow.Author.Needs.{needs}
-use Rattle.arrays.specs.Update.{update, entries, only}
+use Rattle.arrays.specs.Update.{update, entries, only, trapezoid}
 use Rattle.arrays.proofs.UpdateLaws.{length-update}
 use Rattle.packing.specs.Factor.{entryOf}
-use Rattle.packing.proofs.FactorLaws.{upward, along-up}
-use Rattle.kernel.specs.Product.{fromColumn, partly, product, trapezoid}
-use Rattle.kernel.proofs.PanelLaws.{turn-up, masked-none, masked-next}
-use Rattle.kernel.proofs.TrapezoidLaws.{within}
+use Rattle.packing.proofs.FactorLaws.{upward, along-up, turn-up}
+use Rattle.direct.specs.Product.{fromColumn, partly, product}
+use Rattle.direct.proofs.DirectLaws.{masked-none}
+use Rattle.kernel.proofs.PanelLaws.{masked-next}
+use Rattle.arrays.proofs.TrapezoidLaws.{within}
 use Rattle.triangles.proofs.by_panels.Statement.{statement}
 use Rattle.triangles.proofs.by_panels.Tie as tie
 

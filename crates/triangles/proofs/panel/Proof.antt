@@ -4,14 +4,15 @@ use Prim.Native.Nat.{ℕ, _≤_, _<_, _+_, _*_}
 use mathlib.Core.Path.{_≡_, refl, _∙_}
 use mathlib.Core.List.{List}
 use native.Mathlib.Omega.{arith}
+use lib.Ieee.{nan}
 use lib.Ieee.{Float}
 use lib.ListN.{length}
 use denote.Ref.{now}
 use borrow.Author.Needs.{needs}
 use Rattle.arrays.proofs.PartLaws.{tail-length, column-room}
 use Rattle.packing.specs.Factor.{Matrix}
-use Rattle.kernel.specs.Product.{halfPacked}
-use Rattle.kernel.proofs.TrapezoidLaws.{rest-fits, diagonal-and-rest}
+use Rattle.kernel.specs.Panels.{halfPacked}
+use Rattle.arrays.proofs.TrapezoidLaws.{rest-fits, diagonal-and-rest}
 use Rattle.triangles.proofs.panel.Statement.{statement}
 use Rattle.triangles.proofs.panel.Tie as tie
 
@@ -109,7 +110,7 @@ same-length-2 c = search needs
 returns : tie.Need-returns
 returns c =
     let p = parts (c .before .before .before .before .before .before .before .before .before .before .before .before .before .before) in (
-      diagonal-and-rest _ _ _ _ _ (omega (arith, p)) _ _ _ _ _ _ (c .before .before .before .before .before .before .before .before .before .before .before .before .before .before .before .pick .ensures) (c .before .before .before .before .before .before .before .before .before .before .before .before .before .before .pick2 .ensures) (omega (arith, p)) (omega (arith, p)) (omega (arith, p))
+      diagonal-and-rest _ _ _ _ _ (omega (arith, p)) nan _ _ _ _ _ _ (c .before .before .before .before .before .before .before .before .before .before .before .before .before .before .before .pick .ensures) (c .before .before .before .before .before .before .before .before .before .before .before .before .before .before .pick2 .ensures) (omega (arith, p)) (omega (arith, p)) (omega (arith, p))
           (c .before .before .before .before .before .before .before .before .before .before .before .square .ensures .0) (at-rows _ _ _ _) _ _ _ refl (c .before .before .before .before .sweep .ensures .0) (at-rows _ _ _ _),
       c .before .before .before .before .sweep .ensures .1 ∙ c .before .before .before .before .before .before .before .before .before .before .before .square .ensures .1,
     )

@@ -7,12 +7,12 @@ use native.Mathlib.Omega.{arith}
 use lib.ListN.{length}
 use denote.Ref.{now}
 use borrow.Author.Needs.{needs}
-use Rattle.arrays.specs.Update.{update, entries, only}
+use Rattle.arrays.specs.Update.{update, entries, only, corner}
 use Rattle.arrays.proofs.PartLaws.{tail-length, column-room}
 use Rattle.arrays.proofs.UpdateLaws.{length-update}
 use Rattle.packing.specs.Factor.{entryOf, along}
 use Rattle.packing.proofs.FactorLaws.{upward, up-from}
-use Rattle.kernel.specs.Product.{halfPacked, corner}
+use Rattle.kernel.specs.Panels.{halfPacked}
 use Rattle.triangles.proofs.SlabLaws.{no-rows, slab-more}
 use Rattle.triangles.proofs.square.Statement.{statement}
 use Rattle.triangles.proofs.square.Tie as tie

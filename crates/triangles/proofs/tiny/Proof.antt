@@ -4,14 +4,15 @@ use Prim.Native.Nat.{ℕ, _≤_, _<_, _+_, _*_}
 use mathlib.Core.Bool.{false}
 use mathlib.Core.Path.{_≡_, refl}
 use native.Mathlib.Omega.{arith}
+use lib.Ieee.{nan}
 use lib.Ieee.{Float}
 use lib.ListN.{length}
 use denote.Ref.{now}
 use borrow.Author.Needs.{needs}
 use Rattle.arrays.proofs.PartLaws.{tail-length, column-room}
 use Rattle.packing.specs.Factor.{Matrix, entryOf}
-use Rattle.kernel.specs.Product.{fromRow, fromColumn, partly, product}
-use Rattle.kernel.proofs.TrapezoidLaws.{rest-fits, diagonal-alone, diagonal-and-rest}
+use Rattle.direct.specs.Product.{fromRow, fromColumn, partly, product}
+use Rattle.arrays.proofs.TrapezoidLaws.{rest-fits, diagonal-alone, diagonal-and-rest}
 use Rattle.triangles.proofs.tiny.Statement.{statement}
 use Rattle.triangles.proofs.tiny.Tie as tie
 
@@ -83,7 +84,7 @@ same-length c = search needs
 returns : tie.Need-returns
 returns c =
     let p = parts (c .before .before .before .before .before) in
-    diagonal-alone _ _ _ _ _ (omega (arith, p)) _ _ _ _ _ _ (c .before .before .before .before .before .before .pick .ensures) (c .before .before .before .before .before .pick2 .ensures) (omega (arith, p)) (omega (arith, p)) (omega (arith, p)) (c .before .before .before .triangle .ensures) (at-rows _ (entryOf (c .before .before .before .before .before .before .before .before .before .before .args .fa) (now (c .before .before .before .before .before .before .before .before .before .before .args .a)) (c .before .before .before .before .before .before .before .before .before .before .args .lda)) (entryOf (c .before .before .before .before .before .before .before .before .before .before .args .fb) (now (c .before .before .before .before .before .before .before .before .before .before .args .b)) (c .before .before .before .before .before .before .before .before .before .before .args .ldb)) _ _ _) (c .if1 .taken)
+    diagonal-alone _ _ _ _ _ (omega (arith, p)) nan _ _ _ _ _ _ (c .before .before .before .before .before .before .pick .ensures) (c .before .before .before .before .before .pick2 .ensures) (omega (arith, p)) (omega (arith, p)) (omega (arith, p)) (c .before .before .before .triangle .ensures) (at-rows _ (entryOf (c .before .before .before .before .before .before .before .before .before .before .args .fa) (now (c .before .before .before .before .before .before .before .before .before .before .args .a)) (c .before .before .before .before .before .before .before .before .before .before .args .lda)) (entryOf (c .before .before .before .before .before .before .before .before .before .before .args .fb) (now (c .before .before .before .before .before .before .before .before .before .before .args .b)) (c .before .before .before .before .before .before .before .before .before .before .args .ldb)) _ _ _) (c .if1 .taken)
 
 mul-multiply : tie.Need-mul-multiply
 mul-multiply c = omega (arith, parts (c .before .before .before .before .before))
@@ -115,7 +116,7 @@ same-length-2 c = search needs
 returns-2 : tie.Need-returns-2
 returns-2 c =
     let p = parts (c .before .before .before .before .before .before .before .before .before) in
-    diagonal-and-rest _ _ _ _ _ (omega (arith, p)) _ _ _ _ _ _ (c .before .before .before .before .before .before .before .before .before .before .pick .ensures) (c .before .before .before .before .before .before .before .before .before .pick2 .ensures) (omega (arith, p)) (omega (arith, p)) (omega (arith, p)) (c .before .before .before .before .before .before .before .triangle .ensures) (at-rows _ (entryOf (c .before .before .before .before .before .before .before .before .before .before .before .before .before .before .args .fa) (now (c .before .before .before .before .before .before .before .before .before .before .before .before .before .before .args .a)) (c .before .before .before .before .before .before .before .before .before .before .before .before .before .before .args .lda)) (entryOf (c .before .before .before .before .before .before .before .before .before .before .before .before .before .before .args .fb) (now (c .before .before .before .before .before .before .before .before .before .before .before .before .before .before .args .b)) (c .before .before .before .before .before .before .before .before .before .before .before .before .before .before .args .ldb)) _ _ _)
+    diagonal-and-rest _ _ _ _ _ (omega (arith, p)) nan _ _ _ _ _ _ (c .before .before .before .before .before .before .before .before .before .before .pick .ensures) (c .before .before .before .before .before .before .before .before .before .pick2 .ensures) (omega (arith, p)) (omega (arith, p)) (omega (arith, p)) (c .before .before .before .before .before .before .before .triangle .ensures) (at-rows _ (entryOf (c .before .before .before .before .before .before .before .before .before .before .before .before .before .before .args .fa) (now (c .before .before .before .before .before .before .before .before .before .before .before .before .before .before .args .a)) (c .before .before .before .before .before .before .before .before .before .before .before .before .before .before .args .lda)) (entryOf (c .before .before .before .before .before .before .before .before .before .before .before .before .before .before .args .fb) (now (c .before .before .before .before .before .before .before .before .before .before .before .before .before .before .args .b)) (c .before .before .before .before .before .before .before .before .before .before .before .before .before .before .args .ldb)) _ _ _)
     _ _ _ refl (c .before .before .multiply .ensures) (at-rows _ (entryOf (c .before .before .before .before .before .before .before .before .before .before .before .before .before .before .args .fa) (now (c .before .before .before .before .before .before .before .before .before .before .before .before .before .before .args .a)) (c .before .before .before .before .before .before .before .before .before .before .before .before .before .before .args .lda)) (entryOf (c .before .before .before .before .before .before .before .before .before .before .before .before .before .before .args .fb) (now (c .before .before .before .before .before .before .before .before .before .before .before .before .before .before .args .b)) (c .before .before .before .before .before .before .before .before .before .before .before .before .before .before .args .ldb)) _ _ _)
 
 pub tiny-spec : {M : Type 1} → statement M

@@ -4,7 +4,7 @@ use Prim.Native.Nat.{_+_, _*_, _<_}
 use native.Mathlib.Omega.{arith}
 use lib.ListN.{length}
 use denote.Ref.{now}
-use Rattle.kernel.proofs.PanelLaws.{panel-indices}
+use Rattle.packing.proofs.FactorLaws.{panel-indices}
 use Rattle.lines.proofs.GridLaws.{some-ld}
 use Rattle.trsm_diagonal.proofs.FactorLaws.{minus-one}
 use Rattle.trsm.proofs.ElementLaws.{terms-below, diagonal-low, element-step}

@@ -2,8 +2,8 @@
 -- Assumes nothing.
 use native.Mathlib.Omega.{arith}
 use mathlib.Core.Path.{_∙_}
-use Rattle.kernel.specs.Product.{turn}
-use Rattle.kernel.proofs.PanelLaws.{turn-below}
+use Rattle.packing.specs.Factor.{turn}
+use Rattle.packing.proofs.FactorLaws.{turn-below}
 use Rattle.trsm_diagonal.proofs.OrderLaws.{turn-turn}
 use Rattle.trsm_diagonal.proofs.FactorLaws.{minus-one, matrix-kept, before-is-beside, entries-scaled}
 use borrow.Author.Needs.{needs}

@@ -8,9 +8,10 @@ use borrow.Author.Needs.{needs}
 use Rattle.arrays.specs.Update.{update, region}
 use Rattle.arrays.proofs.UpdateLaws.{length-update}
 use Rattle.packing.specs.Factor.{entryOf}
-use Rattle.kernel.specs.Product.{fromRow, fromColumn, partly, product}
-use Rattle.packing.proofs.FactorLaws.{upward, along-up}
-use Rattle.kernel.proofs.PanelLaws.{turn-below, turn-along, panel-indices, partly-none, panel-next}
+use Rattle.direct.specs.Product.{fromRow, fromColumn, partly, product}
+use Rattle.packing.proofs.FactorLaws.{upward, along-up, turn-below, turn-along, panel-indices}
+use Rattle.direct.proofs.DirectLaws.{partly-none}
+use Rattle.kernel.proofs.PanelLaws.{panel-next}
 use Rattle.kernel.proofs.panels.panels.Statement.{statement}
 use Rattle.kernel.proofs.panels.panels.Tie as tie
 
@@ -44,7 +45,7 @@ turn c = record {
 }
 
 loop-holds : tie.Need-loop-holds Inv-loop μ-loop
-loop-holds c = (omega arith, refl, refl, refl, partly-none _ _ _ _ _ _ _ _ _ _ _ _)
+loop-holds c = (omega arith, refl, refl, refl, partly-none _ _ _ _ _ _ _ _ _)
 
 sub-smaller : tie.Need-sub-smaller Inv-loop μ-loop
 sub-smaller c = omega arith

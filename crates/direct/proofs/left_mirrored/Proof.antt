@@ -1,0 +1,47 @@
+-- `direct::left_mirrored` meets its contract: either buffer has the room.
+-- Assumes nothing.
+use native.Mathlib.Omega.{arith}
+use borrow.Author.Needs.{needs}
+use Rattle.direct.proofs.left_mirrored.Statement.{statement}
+use Rattle.direct.proofs.left_mirrored.Tie as tie
+
+within-requires : tie.Need-within-requires
+within-requires c κs = search needs
+
+slice-aggregate-left-written : tie.Need-slice-aggregate-left-written
+slice-aggregate-left-written c = search needs
+
+left-written-requires : tie.Need-left-written-requires
+left-written-requires c κs = (omega (arith, c .before .before .before .within .ensures (c .before .before .if1 .taken)), c .before .before .before .before .before .before .before .pre .1)
+
+same-length : tie.Need-same-length
+same-length c = search needs
+
+returns : tie.Need-returns
+returns c = search needs
+
+slice-aggregate-left-written-2 : tie.Need-slice-aggregate-left-written-2
+slice-aggregate-left-written-2 c = search needs
+
+left-written-requires-2 : tie.Need-left-written-requires-2
+left-written-requires-2 c κs = (omega arith, c .before .before .before .before .before .before .before .pre .1)
+
+same-length-2 : tie.Need-same-length-2
+same-length-2 c = search needs
+
+returns-2 : tie.Need-returns-2
+returns-2 c = search needs
+
+pub left-mirrored-spec : {M : Type 1} → statement M
+left-mirrored-spec =
+    tie.close
+    (tie.spec
+    within-requires
+    slice-aggregate-left-written
+    left-written-requires
+    same-length
+    returns
+    slice-aggregate-left-written-2
+    left-written-requires-2
+    same-length-2
+    returns-2)
