@@ -1,7 +1,7 @@
 -- Masks: a part that is lent and comes back adds the entries of its own mask to those that are done.
 -- Assumes nothing.
-use mathlib.Core.Bool.{Bool, true, false, _&&_, and-false}
-use mathlib.Core.Path.{_≡_, refl, sym, ap, _∙_}
+use mathlib.Core.Bool.{Bool, true, false, _&&_, and-false, and-comm}
+use mathlib.Core.Path.{_≡_, refl, sym, ap, ap₂, _∙_}
 use mathlib.Core.Logic.{⊎-elim, _⊎_}
 use mathlib.Core.List.{List}
 use Prim.Native.Nat.{ℕ, _+_, _-_, _*_, _<_, _≤_}
@@ -46,6 +46,11 @@ module _ (i₀ j₀ : ℕ) (inner : Mask) (i j : ℕ) where
   pub moved-out : inner (i - i₀) (j - j₀) ≡ false → moved i₀ j₀ inner i j ≡ false
   unfolding moved
   moved-out h = rw (h, and-false)
+
+-- a transposed mask that is moved
+pub moved-across : (i₀ j₀ : ℕ) (inner across : Mask) (i j : ℕ) → ((r c : ℕ) → inner r c ≡ across c r) → moved i₀ j₀ inner i j ≡ moved j₀ i₀ across j i
+unfolding moved
+moved-across i₀ j₀ inner across i j h = ap₂ (λ (s t : Bool). s && t) (and-comm (leb i₀ i) (leb j₀ j)) (h (i - i₀) (j - j₀))
 
 module _ {A : Type 0} (d : A) (ld : ℕ) (pos : 0 < ld) where
   -- an entry map of the block, on its mask, is one of the whole on the moved mask

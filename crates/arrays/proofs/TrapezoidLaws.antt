@@ -1,13 +1,13 @@
 -- The part of a triangle that lies in some of its columns: it grows by columns, and its columns are a diagonal block and a rectangle.
 -- Assumes nothing.
-use mathlib.Core.Bool.{Bool, true, false, and-false, true≢false}
+use mathlib.Core.Bool.{Bool, true, false, not, _&&_, and-false, and-comm, true≢false}
 use mathlib.Core.Path.{_≡_, refl, sym, ap, _∙_}
 use mathlib.Core.Logic.{⊎-elim, _⊎_, inl, inr}
 use mathlib.Core.List.{List}
 use Prim.Native.Nat.{ℕ, _+_, _-_, _*_, _<_, _≤_}
 use native.Mathlib.Nat.{zero-add}
 use native.Mathlib.Omega.{arith}
-use lib.Dec.{ltb}
+use lib.Dec.{leb, ltb}
 use lib.ListN.{length, take, drop}
 use borrow.Rule.Slice.PartMut.{putMid}
 use borrow.Author.Tests.{ltb-true, leb-true, lt-ltb, le-ltb, le-leb, lt-leb}
@@ -50,9 +50,19 @@ module _ (from rows cols i j : ℕ) where
   unfolding trapezoid
   row-out lower h = rw (box-row-out rows cols i j h)
 
-  column-out : (lower : Bool) → cols ≤ j → trapezoid lower from rows cols i j ≡ false
+  pub column-out : (lower : Bool) → cols ≤ j → trapezoid lower from rows cols i j ≡ false
   unfolding trapezoid
   column-out lower h = rw (box-column-out rows cols i j h)
+
+-- rows and columns change places, and the triangles too
+pub box-across : (rows cols i j : ℕ) → box rows cols i j ≡ box cols rows j i
+unfolding box
+box-across rows cols i j = and-comm (ltb i rows) (ltb j cols)
+
+pub corner-across : (lower : Bool) (rows cols i j : ℕ) → corner lower rows cols i j ≡ corner (not lower) cols rows j i
+unfolding trapezoid
+corner-across true rows cols i j = rw (zero-add i, zero-add j) (ap (λ (b : Bool). b && leb j i) (box-across rows cols i j))
+corner-across false rows cols i j = rw (zero-add i, zero-add j) (ap (λ (b : Bool). b && leb i j) (box-across rows cols i j))
 
 -- no columns at all
 pub none-yet : {A : Type 0} (lower : Bool) (from n ld : ℕ) (f : EntryMap A) (l : List A) → l ≡ update (entries ld (only (trapezoid lower from n 0) f)) l
@@ -61,10 +71,10 @@ none-yet lower from n ld f l = nothing-done ld (trapezoid lower from n 0) f l (�
 -- ---- columns more
 
 module _ (lower : Bool) (from n j g h : ℕ) (eg : g ≡ from + j) (i c : ℕ) where
-  columns-apart : trapezoid lower from n j i c ≡ true → moved 0 j (trapezoid lower g n h) i c ≡ false
+  pub columns-apart : trapezoid lower from n j i c ≡ true → moved 0 j (trapezoid lower g n h) i c ≡ false
   columns-apart = apart _ _ (λ u v. omega (arith, within from n j i c lower u .column, is-moved 0 j _ i c v .column))
 
-  columns-join : trapezoid lower from n (j + h) i c ≡ (if trapezoid lower from n j i c then true else moved 0 j (trapezoid lower g n h) i c)
+  pub columns-join : trapezoid lower from n (j + h) i c ≡ (if trapezoid lower from n j i c then true else moved 0 j (trapezoid lower g n h) i c)
   columns-join =
       joined _ _ _
       (λ u.
@@ -175,7 +185,7 @@ module _ (n g h top rows : ℕ) (within-n : g + h ≤ n) where
   rest-fits true et er = omega arith
   rest-fits false et er = omega arith
 
-  rest-apart : (lower : Bool) → top ≡ (if lower then g + h else 0) → rows ≡ (if lower then n - (g + h) else g) → (i c : ℕ)
+  pub rest-apart : (lower : Bool) → top ≡ (if lower then g + h else 0) → rows ≡ (if lower then n - (g + h) else g) → (i c : ℕ)
       → moved g 0 (corner lower h h) i c ≡ true → moved top 0 (box rows h) i c ≡ false
   rest-apart lower et er i c =
       apart _ _
@@ -191,7 +201,7 @@ module _ (n g h top rows : ℕ) (within-n : g + h ≤ n) where
       go true et er i hg hh ht hr = omega arith
       go false et er i hg hh ht hr = omega arith
 
-  rest-join : (lower : Bool) → top ≡ (if lower then g + h else 0) → rows ≡ (if lower then n - (g + h) else g) → (i c : ℕ)
+  pub rest-join : (lower : Bool) → top ≡ (if lower then g + h else 0) → rows ≡ (if lower then n - (g + h) else g) → (i c : ℕ)
       → trapezoid lower g n h i c ≡ (if moved g 0 (corner lower h h) i c then true else moved top 0 (box rows h) i c)
   rest-join lower et er i c =
       joined _ _ _

@@ -1,4 +1,4 @@
--- Laws of a product by panels: what the packed buffers hold, a block of rows more, a panel of terms more.
+-- Laws of a product by panels: a block of rows more, a panel of terms more.
 -- Assumes nothing.
 use mathlib.Core.Bool.{Bool, true, false}
 use mathlib.Core.Path.{_≡_, refl, ap, ap₂, _∙_}

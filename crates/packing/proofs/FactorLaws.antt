@@ -1,4 +1,4 @@
--- Laws of a factor's entries.
+-- Laws of a factor's entries, and of the order in which its terms are taken.
 -- Assumes nothing.
 use mathlib.Core.Bool.{Bool, true, false, true≢false}
 use mathlib.Core.Path.{_≡_, refl, sym, ap}

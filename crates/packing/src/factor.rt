@@ -1,4 +1,4 @@
-// The places of a factor's entries.
+// The places of a factor's entries, and the order in which its terms are taken.
 ghost use mathlib.Core.Path.{_≡_};
 ghost use Prim.Native.Nat.{_+_, _<_};
 ghost use Rattle.packing.specs.Factor.{Indices, indexOf, along, turn};

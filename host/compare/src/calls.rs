@@ -112,34 +112,33 @@ pub fn around_multiples_of_64(routine: Routine, each: Each) {
     }
 }
 
-/// So many columns that the library takes them in more than one turn, or just not, and few of everything else.
-pub fn more_than_256_columns(routine: Routine, each: Each) {
+/// Three calls for each combination of plain options, changed by their number.
+fn three_of_each(name: &str, routine: Routine, each: Each, change: fn(usize, &mut Call)) {
     let combinations = plain_combinations(routine);
     for index in cases(3 * combinations.len()) {
-        let options = &combinations[index / 3];
-        each(&format!("wide {routine:?}"), index as u64, &|random| {
+        each(&format!("{name} {routine:?}"), index as u64, &|random| {
             large(random, routine, |call| {
-                take_options(call, options);
-                call.n = [256, 257, 330][index % 3];
-                (call.m, call.k) = [(5, 17), (65, 3), (1, 65), (17, 5), (3, 1)][index % 5];
-                (call.w, call.r) = [(0, 0), (64, call.r), (call.w, 0), (63, 64)][index % 4];
+                take_options(call, &combinations[index / 3]);
+                change(index, call);
             })
         });
     }
 }
 
+/// So many columns that the library takes them in more than one turn, or just not, and few of everything else.
+pub fn more_than_256_columns(routine: Routine, each: Each) {
+    three_of_each("wide", routine, each, |index, call| {
+        call.n = [256, 257, 330][index % 3];
+        (call.m, call.k) = [(5, 17), (65, 3), (1, 65), (17, 5), (3, 1)][index % 5];
+        (call.w, call.r) = [(0, 0), (64, call.r), (call.w, 0), (63, 64)][index % 4];
+    });
+}
+
 /// A strip width of 0, a block size of 0, and both, with sizes around the multiples of 64.
 pub fn zeros(routine: Routine, each: Each) {
-    let combinations = plain_combinations(routine);
-    for index in cases(3 * combinations.len()) {
-        let options = &combinations[index / 3];
-        each(&format!("zeros {routine:?}"), index as u64, &|random| {
-            large(random, routine, |call| {
-                take_options(call, options);
-                (call.w, call.r) = [(0, call.r), (call.w, 0), (0, 0)][index % 3];
-            })
-        });
-    }
+    three_of_each("zeros", routine, each, |index, call| {
+        (call.w, call.r) = [(0, call.r), (call.w, 0), (0, 0)][index % 3];
+    });
 }
 
 /// TRMM and TRSM where the triangle that is not read, and a diagonal that counts as 1, hold nothing but NaN.
