@@ -3,14 +3,15 @@
  *
  * A matrix is stored by columns: entry (i, j), both from 0, of an array with leading dimension ld is element
  * j * ld + i. An array of p rows and q columns needs ld * (q - 1) + p elements, or none if p or q is 0. Each array is
- * passed as a pointer and the number of elements behind it. No pointer is null, not even where the number is 0. The
- * array that is written must not overlap the others.
+ * passed as a pointer and the number of elements behind it. No pointer is null, not even where the number is 0, but for
+ * that of a pack area. The array that is written must not overlap the others.
  *
  * Codes are character numbers, in upper or lower case, as 'N' or 'n'.
  *
  * Every call of a routine returns 0, or the number of its first bad argument, and then it has written nothing; TRSM
- * returns it in a SolveEnd. The strip width and the block size are tested first (30); then codes, sizes and leading
- * dimensions, in the order of the numbers given below; then the lengths of the arrays, in that order too.
+ * returns it in a SolveEnd, and GEMM of many items in a ManyEnd. The strip width and the block size are tested first
+ * (30); then codes, sizes and leading dimensions, in the order of the numbers given below; then the lengths of the
+ * arrays, in that order too.
  *
  * The result of a call is fixed to the last bit. Each element starts as +0.0 if beta is zero (the old element is not
  * read), as the old element if beta is one, and else as beta times it. Then, unless alpha is zero, each term turns the
@@ -51,6 +52,60 @@ extern "C" {
 int32_t tl_dgemm(int32_t transa, int32_t transb, int32_t m, int32_t n, int32_t k, double alpha,
                  const double *a, size_t a_len, int32_t lda, const double *b, size_t b_len, int32_t ldb,
                  double beta, double *c, size_t c_len, int32_t ldc, int32_t w, int32_t r);
+
+/* What GEMM of many items returns.
+ *
+ * number  0, or the number of the first bad argument, and then the call has written nothing.
+ * copied  the elements that were copied into the pack area, m * k or 0. It is 0 of a refused call.
+ */
+struct ManyEnd {
+    int32_t number;
+    uint64_t copied;
+};
+
+/* GEMM of many items, one A and many right sides: C := alpha * A * op(B) + beta * C, where each item has its own B and
+ * C. Every C becomes what a call of GEMM of its own, with transa N, would make of it.
+ *
+ * Item i, from 0, has its B from element i * b_stride of b on, and its C from element i * c_stride of c on.
+ *
+ * If lda is m, A is read where it stands. With any other lda its columns are first copied to the beginning of the pack
+ * area, without padding: entry (i, l) becomes element l * m + i. What is not copied over keeps its bits. Nothing is
+ * copied if items, m, n, k or alpha is zero.
+ *
+ * The numbers 2 to 13 are GEMM's; there is no argument 1. The order of the tests is 30; 2, 3, 4, 5, 8, 10 and 13; 42;
+ * 43; 7, 9 and 12, unless items is 0; 44.
+ *
+ *  2  transb    N: op(B) is B. T or C: op(B) is the transpose of B.
+ *  3  m         rows of A and of every C, at least 0.
+ *  4  n         columns of op(B) and of every C, at least 0.
+ *  5  k         columns of A and rows of op(B), at least 0.
+ *  6  alpha     factor of the product. If it is zero, A and B are not read and may be of any length.
+ *  7  a         A, m by k. It is only read. a_len elements; with fewer than A needs the call is refused, unless items,
+ *               m, n, k or alpha is zero.
+ *  8  lda       leading dimension of A: at least m, and at least 1.
+ *  9  b         every B: k by n for transb N, else n by k. They are only read, and may overlap each other. b_len
+ *               elements; with fewer than (items - 1) * b_stride plus what B needs the call is refused, unless items,
+ *               m, n, k or alpha is zero.
+ * 10  ldb       leading dimension of every B: at least the rows that B is stored with, and at least 1.
+ * 43  b_stride  elements from one B to the next, at least 0. If it is 0, all items have the same B.
+ * 11  beta      factor of the old C. If it is zero, no old C is read.
+ * 12  c         every C, m by n: read and written. c_len elements; with fewer than (items - 1) * c_stride plus what C
+ *               needs the call is refused, unless items, m or n is zero. Elements that are no entry of a C keep their
+ *               bits.
+ * 13  ldc       leading dimension of every C: at least m, and at least 1.
+ * 43  c_stride  elements from one C to the next: at least 0, and at least what C needs, even if items is 0.
+ * 42  items     how many there are, 0 to 1000.
+ * 44  pack      the pack area. It must not overlap a, b or c. pack_len elements; with fewer than m * k the call is
+ *               refused if it has to copy. Where nothing is copied, pack is not looked at: it may be NULL, pack_len
+ *               being 0.
+ * 30  w         strip width, as for GEMM: the columns of each C.
+ * 30  r         block size, as for GEMM.
+ */
+struct ManyEnd tl_dgemm_many(int32_t transb, int32_t m, int32_t n, int32_t k, double alpha,
+                             const double *a, size_t a_len, int32_t lda,
+                             const double *b, size_t b_len, int32_t ldb, int32_t b_stride,
+                             double beta, double *c, size_t c_len, int32_t ldc, int32_t c_stride, int32_t items,
+                             double *pack, size_t pack_len, int32_t w, int32_t r);
 
 /* SYMM, the product with a symmetric matrix A: C := alpha * A * B + beta * C or C := alpha * B * A + beta * C.
  *

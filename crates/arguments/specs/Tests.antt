@@ -27,9 +27,12 @@ leading = ld-A ∷ ld-B ∷ ld-C ∷ []
 unfoldable pub lengths : List Argument
 lengths = array-A ∷ array-B ∷ array-C ∷ []
 
+unfoldable pub words : List Argument
+words = codes ++ (sizes ++ leading)
+
 -- The arguments in the order of their columns, which is the order of the tests.
 unfoldable pub columns : List Argument
-columns = codes ++ (sizes ++ (leading ++ lengths))
+columns = words ++ lengths
 
 -- A routine's row of the table: the place of each argument, 0 for one that the routine lacks.
 unfoldable pub rowOf : Routine → List ℕ

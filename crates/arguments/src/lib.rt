@@ -2,6 +2,7 @@
 ghost use mathlib.Core.Path.{_≡_};
 ghost use mathlib.Core.Bool.{true, false};
 ghost use Prim.Native.Nat.{_<_};
+ghost use lib.Dec.{eqb};
 ghost use Rattle.arrays.specs.Choice.{if_then_else_};
 ghost use Rattle.definitions.specs.Storage as Storage;
 ghost use Rattle.definitions.specs.Call as Calls;
@@ -152,7 +153,7 @@ fn bad_ld(ld: i32, s: Shape) -> bool
 }
 
 // A strip width or block size that is not 0 to 64.
-fn bad_width(w: i32) -> bool
+pub fn bad_width(w: i32) -> bool
     ensures { λ r. ⌜ r ≡ Check.badWidth w ⌝ }
 {
     let n = size(w);
@@ -262,7 +263,7 @@ fn start_only(c: Call) -> bool
 }
 
 // There is nothing to do.
-fn is_idle(c: Call) -> bool
+pub fn is_idle(c: Call) -> bool
     ensures { λ r. ⌜ r ≡ Check.idle c ⌝ }
 {
     let routine = c.routine;
@@ -343,7 +344,7 @@ fn shape_b(c: Call) -> Shape
     }
 }
 
-fn shape_c(c: Call) -> Shape
+pub fn shape_c(c: Call) -> Shape
     ensures { λ r. ⌜ r ≡ Calls.shapeC (c .routine) c ⌝ }
 {
     let routine = c.routine;
@@ -384,14 +385,14 @@ fn needed(ld: u32, p: u32, q: u32) -> usize
     (ld as usize) * (q as usize - 1) + p as usize
 }
 
-fn short(len: usize, ld: u32, s: Shape) -> bool
+pub fn short(len: usize, ld: u32, s: Shape) -> bool
     ensures { λ r. ⌜ r ≡ Check.short len ld s ⌝ }
 {
     len < needed(ld, s.rows, s.cols)
 }
 
 // The lengths of the inputs are not tested.
-fn untested(c: Call) -> bool
+pub fn untested(c: Call) -> bool
     ensures { λ r. ⌜ r ≡ Check.untested c ⌝ }
 {
     is_empty(c) | start_only(c)
@@ -450,6 +451,34 @@ fn lengths(g: Args, k: Call, a: Shape, b: Shape, c: Shape, row: [u8; 14], sofar:
     first(e2, short_c, row[13])
 }
 
+// The place of the first code, size or leading dimension that is bad, or 0.
+pub fn bad_place(g: Args, k: Call) -> u8
+    requires { ⌜ k ≡ Check.callOf g ⌝ }
+    ensures { λ x. ⌜ x ≡ Check.firstBad g (Check.places (g .routine)) ⌝ }
+{
+    let routine = g.routine;
+    let row = places(routine);
+    let a = shape_a(k);
+    let b = shape_b(k);
+    let c = shape_c(k);
+    let e1 = codes(g, row);
+    let e2 = sizes(g, row, e1);
+    leading(g, a, b, c, row, e2)
+}
+
+// The place of the first array that is too short, or 0, after tests whose number is `sofar`.
+pub fn bad_array(g: Args, k: Call, sofar: u8) -> u8
+    requires { ⌜ k ≡ Check.callOf g ⌝ }
+    ensures { λ x. ⌜ x ≡ (if eqb sofar 0 then Check.firstBad g (Check.arrays (g .routine)) else sofar) ⌝ }
+{
+    let routine = g.routine;
+    let row = places(routine);
+    let a = shape_a(k);
+    let b = shape_b(k);
+    let c = shape_c(k);
+    lengths(g, k, a, b, c, row, sofar)
+}
+
 // The number of a refusal, or 0.
 fn refusal(w: i32, r: i32, g: Args, k: Call) -> u8
     requires { ⌜ k ≡ Check.callOf g ⌝ }
@@ -458,15 +487,8 @@ fn refusal(w: i32, r: i32, g: Args, k: Call) -> u8
     if bad_width(w) | bad_width(r) {
         return 30;
     }
-    let routine = g.routine;
-    let row = places(routine);
-    let a = shape_a(k);
-    let b = shape_b(k);
-    let c = shape_c(k);
-    let e1 = codes(g, row);
-    let e2 = sizes(g, row, e1);
-    let e3 = leading(g, a, b, c, row, e2);
-    lengths(g, k, a, b, c, row, e3)
+    let e = bad_place(g, k);
+    bad_array(g, k, e)
 }
 
 // The argument check: refused with a number, nothing to do, or ready.

@@ -3,12 +3,12 @@
 -- Assumes nothing.
 use mathlib.Core.Path.{_≡_, refl, sym, ap, subst, _∙_}
 use mathlib.Core.Logic.{⊎-elim}
-use mathlib.Core.List.{List, _++_, append-nil}
-use Prim.Native.Nat.{ℕ, _+_, _-_, _*_, _/_, _%_, _<_, _≤_}
+use mathlib.Core.List.{List, [], _∷_, _++_, append-nil}
+use Prim.Native.Nat.{ℕ, zero, suc, _+_, _-_, _*_, _/_, _%_, _<_, _≤_}
 use native.Mathlib.Nat.{le-refl, mul-le-mul-right, add-mul, suc-mul, mod-lt, div-add-mod'}
 use native.Mathlib.Omega.{arith}
 use lib.ListN.{length, getD, take, drop, length-drop, drop-of-length-le, List·getD-append}
-use lib.Seq.{take-all, length-take-le, getD-take, getD-drop, getD-append-add}
+use lib.Seq.{take-all, length-take-le, take-take, getD-take, getD-drop, getD-append-add}
 use borrow.Rule.Slice.PartMut.{putMid, same-len-mid}
 use Rattle.arrays.specs.Update.{EntryMap, update, entries, shifted}
 use Rattle.arrays.proofs.UpdateLaws.{lt-or-ge, length-update, at-update, is-update}
@@ -37,6 +37,26 @@ module _ {A : Type 0} where
   put-tail a l ys h =
       ap (λ (r : List A). take a l ++ (ys ++ r)) (drop-of-length-le (drop a l) {i = length l - a} (rw length-drop (le-refl _)))
       ∙ ap (λ (r : List A). take a l ++ r) (append-nil ys)
+
+  -- the elements before a part that came back in its old length, and the part, also where it lies past the list's end
+  pub take-back : (a : ℕ) (l ys : List A) → length ys ≡ length (drop a l) → take a (take a l ++ ys) ≡ take a l
+  take-back zero l ys h = refl
+  take-back (suc a) [] [] h = refl
+  take-back (suc a) [] (y ∷ ys) h = absurd (omega arith)
+  take-back (suc a) (x ∷ l) ys h = ap (λ (r : List A). x ∷ r) (take-back a l ys h)
+
+  pub drop-back : (a : ℕ) (l ys : List A) → length ys ≡ length (drop a l) → drop a (take a l ++ ys) ≡ ys
+  drop-back zero l ys h = refl
+  drop-back (suc a) [] [] h = refl
+  drop-back (suc a) [] (y ∷ ys) h = absurd (omega arith)
+  drop-back (suc a) (x ∷ l) ys h = drop-back a l ys h
+
+  -- n elements from a on are among the first m
+  pub among-first : (a n m : ℕ) (l : List A) → a + n ≤ m → take n (drop a (take m l)) ≡ take n (drop a l)
+  among-first zero n m l h = take-take n m l (omega arith)
+  among-first (suc a) n zero l h = absurd (omega arith)
+  among-first (suc a) n (suc m) [] h = refl
+  among-first (suc a) n (suc m) (x ∷ l) h = among-first a n m l (omega arith)
 
   put-before : (a k : ℕ) (l ys : List A) (p : ℕ) (d : A) → a ≤ length l → p < a → getD (putMid a k l ys) p d ≡ getD l p d
   put-before a k l ys p d h b =

@@ -6,7 +6,7 @@ use mathlib.Core.Path.{_≡_, refl, sym, ap, ap₂, subst, _∙_}
 use mathlib.Core.Logic.{⊎-elim}
 use mathlib.Core.List.{List}
 use Prim.Native.Nat.{ℕ, zero, suc, _+_, _-_, _*_, _/_, _%_, _<_, _≤_}
-use native.Mathlib.Nat.{div-add-mod', le-div-iff-mul-le, one-mul}
+use native.Mathlib.Nat.{mod-lt, div-add-mod', le-div-iff-mul-le, div-lt-iff-lt-mul, one-mul}
 use native.Mathlib.Omega.{arith}
 use lib.ListN.{length, getD, take, drop, set, length-set}
 use lib.Seq.{getD-set-same, getD-set-other}
@@ -118,6 +118,17 @@ module _ {A : Type 0} (d : A) (ld : ℕ) (pos : 0 < ld) where
       sym (boxed-column-out rows 1 (λ i j x. f i x) (p % ld) (p / ld) x one))
       (lt-or-ge p ld))
       (lt-or-ge p rows))
+
+  -- all rows of the first columns are the first elements
+  pub all-columns : (cols : ℕ) (f : EntryMap A) (l : List A) → update (region ld ld cols f) l ≡ update (below (cols * ld) (entries ld f)) l
+  unfolding region entries
+  all-columns cols f l =
+      update-same _ _ l
+      (λ p _ x.
+      ⊎-elim
+      (λ (h : p < cols * ld). boxed-in ld cols f (p % ld) (p / ld) x (mod-lt p pos) (div-lt-iff-lt-mul pos .1 h) ∙ sym (below-in (cols * ld) _ p x h))
+      (λ h. boxed-column-out ld cols f (p % ld) (p / ld) x (le-div-iff-mul-le pos .1 h) ∙ sym (below-out (cols * ld) _ p x h))
+      (lt-or-ge p (cols * ld)))
 
   -- a block of ni rows and nj columns, from entry (i₀, j₀) on, that was lent and came back: m is the array before, l as a loop began
   pub region-block : (i₀ j₀ ni nj rows cols a : ℕ) (f g h : EntryMap A) (l m ys : List A)

@@ -6,7 +6,7 @@ use mathlib.Core.List.{List, [], _∷_}
 use Prim.Native.Nat.{ℕ, zero, suc, _+_, _<_, _≤_}
 use native.Mathlib.Nat.{not-suc-le-zero, le-of-suc-le-suc, add-zero, add-suc, suc-add, zero-add, eq-or-lt-of-le}
 use native.Mathlib.Omega.{arith}
-use lib.ListN.{length, getD, set, length-set}
+use lib.ListN.{length, getD, drop, set, length-set}
 use lib.Seq.{ext-getD, getD-set-same, getD-set-other}
 use borrow.Author.Tests.{lt-ltb, le-ltb}
 use Rattle.arrays.specs.Update.{updateFrom, update, below}
@@ -70,6 +70,20 @@ module _ {A : Type 0} where
   -- an update that changes nothing
   pub update-keep : (f : ℕ → A → A) (l : List A) → ((p : ℕ) → p < length l → (x : A) → f p x ≡ x) → update f l ≡ l
   update-keep f l e = keep-from 0 f l (λ p b. e p (omega arith))
+
+  drop-from : (k n : ℕ) (f : ℕ → A → A) (l : List A) → ((p : ℕ) → k + n ≤ p → (x : A) → f p x ≡ x) → drop n (updateFrom k f l) ≡ drop n l
+  unfolding updateFrom
+  drop-from k zero f [] e = refl
+  drop-from k zero f (x ∷ l) e =
+      let r = e k (omega arith) x in
+      let t = drop-from (suc k) zero f l (λ p b. e p (omega arith)) in
+      λ i. r i ∷ t i
+  drop-from k (suc n) f [] e = refl
+  drop-from k (suc n) f (x ∷ l) e = drop-from (suc k) n f l (λ p b. e p (omega arith))
+
+  -- an update that changes nothing from element n on
+  pub update-drop : (n : ℕ) (f : ℕ → A → A) (l : List A) → ((p : ℕ) → n ≤ p → (x : A) → f p x ≡ x) → drop n (update f l) ≡ drop n l
+  update-drop n f l e = drop-from 0 n f l (λ p b. e p (omega arith))
 
   pub update-same : (f g : ℕ → A → A) (l : List A) → ((p : ℕ) → p < length l → (x : A) → f p x ≡ g p x) → update f l ≡ update g l
   update-same f g l e = ap (update f) (sym (update-keep (λ p x. x) l (λ p b x. refl))) ∙ update-then (λ p x. x) f g l e

@@ -2,52 +2,16 @@
 ghost use mathlib.Core.Path.{_≡_};
 ghost use Prim.Native.Nat.{ℕ, _≤_, _<_};
 ghost use lib.ListN.{length};
-ghost use Rattle.definitions.specs.Element as Element;
 ghost use Rattle.definitions.specs.Check as Check;
 ghost use Rattle.definitions.specs.Direct as Direct;
 ghost use Rattle.definitions.specs.declared.Call.{Call as CallOf};
 ghost use Rattle.definitions.specs.declared.Checked.the-variants.{Refused, Ready};
-ghost use Rattle.strips.specs.Lengths.{FitsArrays, widest};
+ghost use Rattle.strips.specs.Lengths.{FitsArrays};
 use definitions::Args;
-use definitions::Call;
 use definitions::Checked;
 use definitions::Routine;
 use definitions::Scalar;
 use definitions::SolveEnd;
-
-// How many columns, or rows, of a call go through its routine at once: four strips of w where that packs a block of A once for all of them.
-fn at_once(routine: Routine, w: usize) -> usize
-    requires { ⌜ (0 < w) × (w ≤ 64) ⌝ }
-    ensures { λ r. ⌜ (0 < r) × (r ≤ widest routine) ⌝ }
-{
-    match routine {
-        Routine::Gemm => 4 * w,
-        Routine::Symm => 4 * w,
-        Routine::Syrk => 4 * w,
-        Routine::Syr2k => 4 * w,
-        Routine::Trmm => w,
-        Routine::Trsm => w,
-    }
-}
-
-// All strips of a call that fits, as many of them at once as its routine takes. It hands back what the last ones report, which is what each of them does.
-fn complete(call: Call, a: &[f64], b: &[f64], out: &mut [f64], w: usize, r: usize) -> i32
-    requires { ⌜ FitsArrays call (length (now a)) (length (now b)) (length (now out)) ⌝ }
-    requires { ⌜ (0 < w) × (w ≤ 64) × (0 < r) × (r ≤ 64) ⌝ }
-    ensures { λ x. ⌜ (now (out .exit) ≡ Element.result call (now (a .entry)) (now (b .entry)) (now (out .entry))) × (x ≡ Element.zeroOf (call .routine) call (now (a .entry))) ⌝ }
-{
-    let d = arguments::extent(call);
-    let routine = call.routine;
-    let most = at_once(routine, w);
-    let mut zero = -1;
-    let mut from = 0;
-    while from < d {
-        let lines = arrays::smaller(most, d - from);
-        zero = strips::strip(call, a, b, out, from, lines, r);
-        from += lines;
-    }
-    zero
-}
 
 // What the answer of the check means for the output, and what is to be handed back.
 fn answered(answer: Checked, a: &[f64], b: &[f64], out: &mut [f64], w: usize, r: usize) -> SolveEnd
@@ -67,7 +31,7 @@ fn answered(answer: Checked, a: &[f64], b: &[f64], out: &mut [f64], w: usize, r:
         },
         Checked::Ready(call) => SolveEnd {
             number: 0,
-            zero: complete(call, a, b, out, w, r),
+            zero: strips::complete(call, a, b, out, w, r),
         },
     }
 }

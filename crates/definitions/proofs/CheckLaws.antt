@@ -102,7 +102,7 @@ module _ (w r : ℤ) (g : Args) where
 
 -- ---- an accepted call: its widths
 
-in-range : (w : ℤ) → badWidth w ≡ false → (0 < width w) × (width w ≤ 64)
+pub in-range : (w : ℤ) → badWidth w ≡ false → (0 < width w) × (width w ≤ 64)
 unfolding badWidth width
 in-range (pos zero) h = (omega arith, omega arith)
 in-range (pos (suc n)) h = (omega arith, ltb-false 64 (suc n) h)

@@ -115,7 +115,7 @@ module _ (g : Args) (h : firstBad g (places (g .routine) ++ arrays (g .routine))
   unfolding untested
   is-tested e = rw (not-empty, e)
 
-  accepted-fits : Fits (k .routine) k (g .lena) (g .lenb) (g .lenc)
+  pub accepted-fits : Fits (k .routine) k (g .lena) (g .lenb) (g .lenc)
   unfolding empty callOf bad badWith
   accepted-fits = record {
     routine-is = refl;

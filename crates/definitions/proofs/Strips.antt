@@ -46,7 +46,7 @@ written c from to i j w =
       below-to = ltb-true _ _ (and-right (leb from (cut c i j)) _ range);
     }
 
-not-written : (c : Call) (from to i j : ℕ) → (Written c from to i j → ⊥) → writes c from to i j ≡ false
+pub not-written : (c : Call) (from to i j : ℕ) → (Written c from to i j → ⊥) → writes c from to i j ≡ false
 not-written c from to i j h = by-test (writes c from to i j) (λ w. absurd (h (written c from to i j w))) (λ w. w)
 
 -- the columns below mid and those from mid on are those of both

@@ -5,6 +5,7 @@ pub mod Call
 pub mod Element
 pub mod Check
 pub mod Direct
+pub mod Many
 pub mod Machine
 pub mod Sheet
 pub mod Run

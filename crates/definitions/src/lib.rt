@@ -97,6 +97,20 @@ pub struct SolveEnd {
     pub zero: i32,
 }
 
+// What a call of many right sides has beside the arguments of its GEMM, as they are given: how many there are, and the strides of their B and C.
+pub struct Items {
+    pub count: i32,
+    pub strideb: i32,
+    pub stridec: i32,
+}
+
+// What such a call hands back: 0 or its number, and how many elements were copied.
+#[repr(C)]
+pub struct ManyEnd {
+    pub number: i32,
+    pub copied: u64,
+}
+
 // What a run hands back: 0 or its number, the cursor, the steps made, and the first record whose solve had a zero on the diagonal, or -1.
 #[repr(C)]
 pub struct RunEnd {

@@ -1,9 +1,11 @@
-// The direct calls and the runner of call sheets for programs in other languages: a slice is a pointer and then a length.
+// The direct calls, the call for many right sides and the runner of call sheets for programs in other languages: a slice is a pointer and then a length.
 ghost use mathlib.Core.Path.{_≡_};
 ghost use Rattle.definitions.specs.Direct as Direct;
+ghost use Rattle.definitions.specs.Many as Many;
 ghost use Rattle.definitions.specs.Run as Run;
 ghost use Rattle.records.specs.Judgement.{sheetOf, arraysOf};
 ghost use Rattle.sheet.specs.Lent.{ranOf};
+use definitions::ManyEnd;
 use definitions::RunEnd;
 use definitions::SolveEnd;
 
@@ -154,6 +156,53 @@ pub extern "C" fn tl_dtrsm(
     ensures { λ x. ⌜ (x ≡ Direct.trsm side uplo transa diag m n alpha (now (a .entry)) lda (now (b .entry)) ldb w r .end) × (now (b .exit) ≡ Direct.trsm side uplo transa diag m n alpha (now (a .entry)) lda (now (b .entry)) ldb w r .array) ⌝ }
 {
     blas::trsm(side, uplo, transa, diag, m, n, alpha, a, lda, b, ldb, w, r)
+}
+
+#[no_mangle]
+pub extern "C" fn tl_dgemm_many(
+    transb: i32,
+    m: i32,
+    n: i32,
+    k: i32,
+    alpha: f64,
+    a: &[f64],
+    lda: i32,
+    b: &[f64],
+    ldb: i32,
+    strideb: i32,
+    beta: f64,
+    c: &mut [f64],
+    ldc: i32,
+    stridec: i32,
+    items: i32,
+    pack: &mut [f64],
+    w: i32,
+    r: i32,
+) -> ManyEnd
+    ensures { λ x. ⌜ (x ≡ Many.many transb m n k alpha (now (a .entry)) lda (now (b .entry)) ldb strideb beta (now (c .entry)) ldc stridec items (now (pack .entry)) w r .end)
+        × (now (c .exit) ≡ Many.many transb m n k alpha (now (a .entry)) lda (now (b .entry)) ldb strideb beta (now (c .entry)) ldc stridec items (now (pack .entry)) w r .array)
+        × (now (pack .exit) ≡ Many.many transb m n k alpha (now (a .entry)) lda (now (b .entry)) ldb strideb beta (now (c .entry)) ldc stridec items (now (pack .entry)) w r .pack) ⌝ }
+{
+    many::gemm_many(
+        transb,
+        m,
+        n,
+        k,
+        alpha,
+        a,
+        lda,
+        b,
+        ldb,
+        strideb,
+        beta,
+        c,
+        ldc,
+        stridec,
+        items,
+        pack,
+        w,
+        r,
+    )
 }
 
 #[no_mangle]

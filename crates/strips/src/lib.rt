@@ -1,4 +1,4 @@
-// One strip of a call of any of the six routines.
+// One strip of a call of any of the six routines, and all of them.
 ghost use mathlib.Core.Path.{_≡_};
 ghost use Prim.Native.Nat.{_+_, _≤_, _<_};
 ghost use lib.ListN.{length};
@@ -50,4 +50,38 @@ pub fn strip(
         }
         Routine::Trsm => trsm::trsm_strip(call, a, part, from, lines, r),
     }
+}
+
+// How many columns, or rows, of a call go through its routine at once: four strips of w where that packs a block of A once for all of them.
+fn at_once(routine: Routine, w: usize) -> usize
+    requires { ⌜ (0 < w) × (w ≤ 64) ⌝ }
+    ensures { λ r. ⌜ (0 < r) × (r ≤ widest routine) ⌝ }
+{
+    match routine {
+        Routine::Gemm => 4 * w,
+        Routine::Symm => 4 * w,
+        Routine::Syrk => 4 * w,
+        Routine::Syr2k => 4 * w,
+        Routine::Trmm => w,
+        Routine::Trsm => w,
+    }
+}
+
+// All strips of a call that fits, as many of them at once as its routine takes. It hands back what the last ones report, which is what each of them does.
+pub fn complete(call: Call, a: &[f64], b: &[f64], out: &mut [f64], w: usize, r: usize) -> i32
+    requires { ⌜ FitsArrays call (length (now a)) (length (now b)) (length (now out)) ⌝ }
+    requires { ⌜ (0 < w) × (w ≤ 64) × (0 < r) × (r ≤ 64) ⌝ }
+    ensures { λ x. ⌜ (now (out .exit) ≡ Element.result call (now (a .entry)) (now (b .entry)) (now (out .entry))) × (x ≡ Element.zeroOf (call .routine) call (now (a .entry))) ⌝ }
+{
+    let d = arguments::extent(call);
+    let routine = call.routine;
+    let most = at_once(routine, w);
+    let mut zero = -1;
+    let mut from = 0;
+    while from < d {
+        let lines = arrays::smaller(most, d - from);
+        zero = strip(call, a, b, out, from, lines, r);
+        from += lines;
+    }
+    zero
 }

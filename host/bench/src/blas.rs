@@ -22,7 +22,7 @@ mod fortran {
 
 /// The six routines.
 pub struct Blas {
-    gemm: fortran::Gemm,
+    pub gemm: fortran::Gemm,
     symm: fortran::Symm,
     syrk: fortran::Syrk,
     syr2k: fortran::Symm,

@@ -36,6 +36,14 @@ impl Library {
         }
     }
 
+    /// A peer.
+    pub fn blas(&self) -> Option<&Blas> {
+        match &self.routines {
+            Routines::Own(_) => None,
+            Routines::Blas(blas) => Some(blas),
+        }
+    }
+
     /// Makes the call so many times and gives the seconds for one.
     pub fn time(&self, problem: &Problem, out: &mut [f64], calls: u32) -> f64 {
         match &self.routines {
@@ -59,7 +67,11 @@ pub fn builds() -> Result<Vec<Library>, String> {
 }
 
 /// netlib's BLAS and OpenBLAS, from where peers.sh puts them.
-fn peers() -> Result<Vec<Library>, String> {
+pub fn peers() -> Result<Vec<Library>, String> {
+    loaded_peers().map_err(|error| format!("{error}; host/bench/peers.sh unpacks the peers"))
+}
+
+fn loaded_peers() -> Result<Vec<Library>, String> {
     let netlib = Shared::load(&target().join("peers/netlib.so"), "netlib", "OPENBLAS_CORETYPE", None)?;
     let mut libraries = vec![Library { name: "netlib", routines: Routines::Blas(Blas::of(&netlib)?) }];
     for (name, kernels) in KERNELS {
@@ -76,6 +88,6 @@ fn peers() -> Result<Vec<Library>, String> {
 /// The builds, and after them the peers.
 pub fn all() -> Result<Vec<Library>, String> {
     let mut libraries = builds()?;
-    libraries.extend(peers().map_err(|error| format!("{error}; host/bench/peers.sh unpacks the peers"))?);
+    libraries.extend(peers()?);
     Ok(libraries)
 }

@@ -4,11 +4,13 @@
 //! routine and order how it does beside the peers and GEMM. `bench picture` draws docs/speed.svg, the rates of GEMM and
 //! TRSM over the order. The peers of these three come from `peers.sh`. `bench pairs` looks for the best strip width and
 //! block size of each build, `bench choice` times the jump to the build in use, `bench rank-update` compares SYRK of
-//! order 512 with three nested loops, and `bench steps` the steps of call sheets with direct calls.
+//! order 512 with three nested loops, `bench steps` the steps of call sheets with direct calls, and `bench many` GEMM
+//! of many items with as many direct calls and, if they are there, with those of the peers.
 
 mod blas;
 mod choice;
 mod libraries;
+mod many;
 mod measure;
 mod own;
 mod pairs;
@@ -46,6 +48,7 @@ fn run(words: &[&str]) -> Result<(), String> {
         ["choice"] => choice::report(),
         ["rank-update"] => rank_update::report(&libraries::builds()?)?,
         ["steps"] => steps::report(),
+        ["many"] => many::report(&libraries::builds()?, libraries::peers()),
         ["summary"] => summary::report(libraries::all()?),
         [] => table::print(&Routine::ALL, &libraries::all()?),
         names => {

@@ -11,17 +11,19 @@ type Output = *mut f64;
 #[rustfmt::skip]
 mod c {
     use super::{Input, Output};
-    use thamrunlek::raw::SolveEnd;
+    use thamrunlek::raw::{ManyEnd, SolveEnd};
     pub type Gemm = unsafe extern "C" fn(i32, i32, i32, i32, i32, f64, Input, usize, i32, Input, usize, i32, f64, Output, usize, i32, i32, i32) -> i32;
+    pub type Many = unsafe extern "C" fn(i32, i32, i32, i32, f64, Input, usize, i32, Input, usize, i32, i32, f64, Output, usize, i32, i32, i32, Output, usize, i32, i32) -> ManyEnd;
     pub type Symm = unsafe extern "C" fn(i32, i32, i32, i32, f64, Input, usize, i32, Input, usize, i32, f64, Output, usize, i32, i32, i32) -> i32;
     pub type Syrk = unsafe extern "C" fn(i32, i32, i32, i32, f64, Input, usize, i32, f64, Output, usize, i32, i32, i32) -> i32;
     pub type Trmm = unsafe extern "C" fn(i32, i32, i32, i32, i32, i32, f64, Input, usize, i32, Output, usize, i32, i32, i32) -> i32;
     pub type Trsm = unsafe extern "C" fn(i32, i32, i32, i32, i32, i32, f64, Input, usize, i32, Output, usize, i32, i32, i32) -> SolveEnd;
 }
 
-/// The six routines.
+/// The six routines, and GEMM of many items.
 pub struct Own {
-    gemm: c::Gemm,
+    pub gemm: c::Gemm,
+    pub many: c::Many,
     symm: c::Symm,
     syrk: c::Syrk,
     syr2k: c::Symm,
@@ -48,6 +50,7 @@ impl Own {
     pub fn linked() -> Own {
         Own {
             gemm: raw::tl_dgemm,
+            many: raw::tl_dgemm_many,
             symm: raw::tl_dsymm,
             syrk: raw::tl_dsyrk,
             syr2k: raw::tl_dsyr2k,
@@ -61,6 +64,7 @@ impl Own {
         unsafe {
             Ok(Own {
                 gemm: library.function("tl_dgemm")?,
+                many: library.function("tl_dgemm_many")?,
                 symm: library.function("tl_dsymm")?,
                 syrk: library.function("tl_dsyrk")?,
                 syr2k: library.function("tl_dsyr2k")?,

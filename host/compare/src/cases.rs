@@ -239,7 +239,7 @@ fn reads_output(call: &Call, i: usize, j: usize) -> bool {
 }
 
 /// A pair of arrays of the same length, alike where the call reads.
-fn pair(
+pub(crate) fn pair(
     random: &mut Random, len: usize, ld: i32, reads: impl Fn(usize, usize) -> bool,
     mut value: impl FnMut(&mut Random, usize, usize) -> f64,
 ) -> [Vec<f64>; 2] {
@@ -254,8 +254,7 @@ fn pair(
 }
 
 /// The length of an array: as much as is needed, or more; anything if it is not tested.
-fn length(random: &mut Random, tested: bool, ld: i32, (rows, cols): (i32, i32)) -> usize {
-    let needed = needed(ld, rows, cols);
+pub(crate) fn length(random: &mut Random, tested: bool, needed: usize) -> usize {
     if tested {
         needed + random.pick(&[0, 0, 1, 7])
     } else {
@@ -268,8 +267,9 @@ fn fill(random: &mut Random, call: Call, values: Values) -> Case {
     let reads_inputs = !call.empty() && !call.start_only();
     let has_b = call.routine != Routine::Syrk && !call.routine.in_place();
     let within = |(rows, cols): (i32, i32), i: usize, j: usize| i < rows as usize && j < cols as usize;
+    let needed = |ld: i32, (rows, cols): (i32, i32)| needed(ld, rows, cols);
 
-    let a_len = length(random, reads_inputs, call.lda, call.stored_a());
+    let a_len = length(random, reads_inputs, needed(call.lda, call.stored_a()));
     let reads = |i, j| reads_inputs && within(call.stored_a(), i, j) && reads_a(&call, i, j);
     let a = pair(random, a_len, call.lda, reads, |random, i, j| match (call.routine, values) {
         // A solve multiplies errors up: the triangle is kept near the identity, except for special values.
@@ -278,20 +278,22 @@ fn fill(random: &mut Random, call: Call, values: Values) -> Case {
         _ => value(random, values),
     });
 
-    let b_len = if has_b { length(random, reads_inputs, call.ldb, call.stored_b()) } else { 0 };
+    let b_len = if has_b { length(random, reads_inputs, needed(call.ldb, call.stored_b())) } else { 0 };
     let reads = |i, j| reads_inputs && within(call.stored_b(), i, j);
     let b = pair(random, b_len, call.ldb, reads, |random, _, _| value(random, values));
 
     let ld = call.ld_of_output();
-    let out_len = length(random, !call.empty(), ld, call.shape_of_output());
+    let out_len = length(random, !call.empty(), needed(ld, call.shape_of_output()));
     let reads = |i, j| !call.empty() && reads_output(&call, i, j);
     let out = pair(random, out_len, ld, reads, |random, _, _| value(random, values));
     Case { call, a, b, out }
 }
 
+/// Numbers from the ends of their range.
+pub(crate) const ENDS: [i32; 8] = [i32::MIN, i32::MIN + 1, -64, -1, 0, 65_536, i32::MAX - 1, i32::MAX];
+
 /// A call with sizes and leading dimensions from the ends of their range, on short arrays; mostly refused.
 pub fn extreme(random: &mut Random, routine: Routine) -> Case {
-    const ENDS: [i32; 8] = [i32::MIN, i32::MIN + 1, -64, -1, 0, 65_536, i32::MAX - 1, i32::MAX];
     let call = options(random, routine);
     let mut number = |likely: &[i32]| if random.once_in(3) { random.pick(&ENDS) } else { random.pick(likely) };
     let sizes = [0, 1, 1, 2, 3];

@@ -1,4 +1,5 @@
-//! Compares two implementations of the routines, or of the runner of call sheets, bit for bit on made-up calls.
+//! Compares two implementations of the routines, of GEMM of many items, or of the runner of call sheets, bit for bit on
+//! made-up calls.
 //!
 //! A [`Case`] is a call with two sets of arrays, one for each implementation. They agree where the call reads and hold
 //! different fillers (NaN, infinities, noise) where it does not: padding, the other triangle, a unit diagonal, the old
@@ -9,6 +10,7 @@
 
 pub mod calls;
 mod cases;
+pub mod many;
 mod random;
 mod runs;
 mod saved;
@@ -65,9 +67,21 @@ fn equal_or_nans(x: f64, y: f64) -> bool {
     equal(x, y) || (x.is_nan() && y.is_nan())
 }
 
-/// The first element that is no longer what it was.
-fn changed(before: &[f64], after: &[f64]) -> Option<usize> {
-    (0..before.len()).find(|&p| !equal(before[p], after[p]))
+/// An array after a call has the right elements where it is written (two NaNs are equal), and elsewhere what it had; an
+/// error says which element it has not.
+fn as_expected(
+    name: &str, before: &[f64], after: &[f64], right: &[f64], written: impl Fn(usize) -> bool,
+) -> Result<(), String> {
+    for p in 0..after.len() {
+        let (before, after, right) = (before[p], after[p], right[p]);
+        if written(p) && !equal_or_nans(after, right) {
+            return Err(format!("element {p} of {name} is {after:e} and not {right:e}"));
+        }
+        if !written(p) && !equal(before, after) {
+            return Err(format!("element {p} of {name} was {before:e} and is {after:e}"));
+        }
+    }
+    Ok(())
 }
 
 /// Makes the call with both implementations. Ok has what they hand back; an error says in what they differ: in that, in
@@ -82,22 +96,10 @@ pub fn compare(case: &Case, tested: Implementation, expected: Implementation) ->
     if done != right_done {
         return Err(format!("it hands back {done:?} and not {right_done:?}"));
     }
-    for (name, before, after) in [("A", &a[0], &a_after), ("B", &b[0], &b_after)] {
-        if let Some(p) = changed(before, after) {
-            return Err(format!("element {p} of the input {name} was written"));
-        }
-    }
+    as_expected("the input A", &a[0], &a_after, &a[0], |_| false)?;
+    as_expected("the input B", &b[0], &b_after, &b[0], |_| false)?;
     let ld = call.ld_of_output().max(1) as usize;
-    for p in 0..out_after.len() {
-        let (before, after, right) = (out[0][p], out_after[p], right[p]);
-        if done.number == 0 && writes(call, p % ld, p / ld) {
-            if !equal_or_nans(after, right) {
-                return Err(format!("entry ({}, {}) is {after:e} and not {right:e}", p % ld, p / ld));
-            }
-        } else if !equal(before, after) {
-            return Err(format!("element {p} of the output was {before:e} and is {after:e}"));
-        }
-    }
+    as_expected("the output", &out[0], &out_after, &right, |p| done.number == 0 && writes(call, p % ld, p / ld))?;
     Ok(done)
 }
 

@@ -22,11 +22,11 @@ fn bad_ld(ld: i32, rows: i32) -> bool {
     ld < rows.max(1)
 }
 
-fn bad_width(w: i32) -> bool {
+pub(crate) fn bad_width(w: i32) -> bool {
     !(0..=64).contains(&w)
 }
 
-fn short(len: usize, ld: i32, (rows, cols): (i32, i32)) -> bool {
+pub(crate) fn short(len: usize, ld: i32, (rows, cols): (i32, i32)) -> bool {
     len < needed(ld, rows, cols)
 }
 
@@ -46,7 +46,8 @@ pub fn check(call: &Call, a_len: usize, b_len: usize, out_len: usize) -> i32 {
     }
 }
 
-fn gemm(call: &Call, a_len: usize, b_len: usize, c_len: usize) -> i32 {
+/// The codes, sizes and leading dimensions of GEMM.
+pub(crate) fn gemm_places(call: &Call) -> i32 {
     if bad_trans(call.transa) {
         return 1;
     }
@@ -70,6 +71,14 @@ fn gemm(call: &Call, a_len: usize, b_len: usize, c_len: usize) -> i32 {
     }
     if bad_ld(call.ldc, call.m) {
         return 13;
+    }
+    0
+}
+
+fn gemm(call: &Call, a_len: usize, b_len: usize, c_len: usize) -> i32 {
+    let number = gemm_places(call);
+    if number != 0 {
+        return number;
     }
     let inputs_tested = call.m != 0 && call.n != 0 && call.alpha != 0.0 && call.k != 0;
     let output_tested = call.m != 0 && call.n != 0;

@@ -1,4 +1,4 @@
-//! The six Level 3 routines as plain loops, and call sheets as a plain machine.
+//! The six Level 3 routines as plain loops, GEMM of many items, and call sheets as a plain machine.
 //!
 //! Everything here is written by hand from documents 01 and 02, slow and obvious on purpose: it is what the tests hold
 //! the library against. It shares no code with the library or its wrapper.
@@ -11,9 +11,11 @@
 mod check;
 mod loops;
 pub mod machine;
+mod many;
 
 pub use check::check;
 pub use loops::zero;
+pub use many::{check_many, many, Many, ManyDone};
 
 /// The six routines, with their numbers in a call sheet.
 #[derive(Clone, Copy, Debug, PartialEq, Eq)]

@@ -1,7 +1,8 @@
-//! Document 01's table, row by row, its and document 02's examples of the numbers handed back, and the zeros of solves.
+//! Document 01's table, row by row, its and document 02's examples of the numbers handed back, the zeros of solves, and
+//! GEMM of many items.
 
 use crate::machine::{run, trailer, End, Lent};
-use crate::{direct, Call, Done, Routine};
+use crate::{direct, many, Call, Done, Many, ManyDone, Routine};
 
 const P: f64 = 9007199254740992.0;
 const LETTER_U: i32 = 'U' as i32;
@@ -288,4 +289,94 @@ fn the_first_record_with_a_zero() {
     assert_eq!(zeros(&[1, 3, 2, 0, 1, 2, 1, 1]), [-1, -1, -1, -1, 2, -1, 3, -1]);
     assert_eq!(zeros(&[6, 4]), [-1, 2]);
     assert_eq!(zeros(&[7, 3]), [2, 3]);
+}
+
+/// A of 2 by 2 with padding, and two columns as B, each with a C of its own and an element between them.
+fn two_items() -> Many {
+    let call = Call { lda: 3, ..tight(sized(Routine::Gemm, 2, 1, 2)) };
+    Many { call: Call { transa: 'T' as i32, ..call }, b_stride: 2, c_stride: 3, items: 2 }
+}
+
+const PADDED: [f64; 5] = [1., 3., 9., 2., 4.];
+const COLUMNS: [f64; 4] = [5., 7., 6., 8.];
+
+/// Makes an accepted call, and gives the C of all items, the pack area and the elements copied.
+fn made(given: Many, a: &[f64], b: &[f64]) -> ([f64; 6], [f64; 5], u64) {
+    let (mut c, mut pack) = ([-1.; 6], [-2.; 5]);
+    let ManyDone { number, copied } = many(&given, a, b, &mut c, &mut pack);
+    assert_eq!(number, 0);
+    (c, pack, copied)
+}
+
+#[test]
+fn many_items() {
+    let (given, call) = (two_items(), two_items().call);
+    let kept = [-2.; 5];
+    let values = [19., 43., -1., 22., 50., -1.];
+    assert_eq!(made(given, &PADDED, &COLUMNS), (values, [1., 3., 2., 4., -2.], 4));
+    let unpadded = Many { call: Call { lda: 2, ..call }, ..given };
+    assert_eq!(made(unpadded, &[1., 3., 2., 4.], &COLUMNS), (values, kept, 0));
+    let same_b = Many { b_stride: 0, ..given };
+    assert_eq!(made(same_b, &PADDED, &COLUMNS).0, [19., 43., -1., 19., 43., -1.]);
+    let added = Many { call: Call { alpha: 2., beta: -1., ..call }, ..given };
+    assert_eq!(made(added, &PADDED, &COLUMNS).0, [39., 87., -1., 45., 101., -1.]);
+    let transposed = Many { call: Call { transb: 'T' as i32, ldb: 3, ..call }, b_stride: 1, ..given };
+    assert_eq!(made(transposed, &PADDED, &[5., 6., 0., 7., 8.]).0, values);
+    let one_term = Many { call: Call { k: 1, ..call }, ..given };
+    assert_eq!(made(one_term, &PADDED, &COLUMNS), ([5., 15., -1., 6., 18., -1.], [1., 3., -2., -2., -2.], 2));
+}
+
+#[test]
+fn many_items_with_little_to_do() {
+    let (given, call) = (two_items(), two_items().call);
+    let (unchanged, kept) = ([-1.; 6], [-2.; 5]);
+    assert_eq!(made(Many { items: 0, ..given }, &[], &[]), (unchanged, kept, 0));
+    for (m, n) in [(0, 1), (2, 0)] {
+        assert_eq!(made(Many { call: Call { m, n, ..call }, ..given }, &[], &[]), (unchanged, kept, 0));
+    }
+    for (k, alpha) in [(0, 1.), (2, 0.), (2, -0.)] {
+        let start_only = Many { call: Call { k, alpha, beta: 3., ..call }, ..given };
+        assert_eq!(made(start_only, &[], &[]), ([-3., -3., -1., -3., -3., -1.], kept, 0));
+    }
+}
+
+/// The number of a call of many items on arrays of these lengths. Refused, it writes nothing.
+fn number_of_many(given: Many, [a, b, c, pack]: [usize; 4]) -> i32 {
+    let (mut c, mut pack) = (vec![7.; c], vec![7.; pack]);
+    let done = many(&given, &vec![1.; a], &vec![1.; b], &mut c, &mut pack);
+    if done.number != 0 {
+        assert!(done.copied == 0 && c.iter().chain(&pack).all(|&x| x == 7.));
+    }
+    done.number
+}
+
+#[test]
+fn numbers_of_many_items() {
+    let (given, call, exact) = (two_items(), two_items().call, [5, 4, 5, 4]);
+    let of_call = |call| number_of_many(Many { call, ..given }, exact);
+    assert_eq!(of_call(call), 0);
+    assert_eq!(of_call(Call { w: 65, transb: 88, ..call }), 30);
+    assert_eq!(of_call(Call { transb: 88, m: -1, ..call }), 2);
+    assert_eq!(of_call(Call { m: -1, n: -1, ..call }), 3);
+    assert_eq!(of_call(Call { n: -1, k: -1, ..call }), 4);
+    assert_eq!(of_call(Call { k: -1, lda: 1, ..call }), 5);
+    assert_eq!(of_call(Call { lda: 1, ldb: 1, ..call }), 8);
+    assert_eq!(of_call(Call { ldb: 1, ldc: 1, ..call }), 10);
+    let bad_items = Many { items: 1001, b_stride: -1, ..given };
+    assert_eq!(number_of_many(Many { call: Call { ldc: 1, ..call }, ..bad_items }, exact), 13);
+    assert_eq!(number_of_many(bad_items, exact), 42);
+    assert_eq!(number_of_many(Many { items: -1, ..given }, exact), 42);
+    for items in [0, 2] {
+        assert_eq!(number_of_many(Many { items, b_stride: -1, ..given }, [0; 4]), 43);
+        assert_eq!(number_of_many(Many { items, c_stride: 1, ..given }, [0; 4]), 43);
+    }
+    assert_eq!(number_of_many(Many { c_stride: -1, call: Call { m: 0, ..call }, ..given }, exact), 43);
+    assert_eq!(number_of_many(given, [4, 3, 4, 3]), 7);
+    assert_eq!(number_of_many(given, [5, 3, 4, 3]), 9);
+    assert_eq!(number_of_many(given, [5, 4, 4, 3]), 12);
+    assert_eq!(number_of_many(given, [5, 4, 5, 3]), 44);
+    assert_eq!(number_of_many(Many { items: 0, ..given }, [0; 4]), 0);
+    let thousand = Many { items: 1000, b_stride: 0, ..given };
+    assert_eq!(number_of_many(thousand, [5, 2, 2999, 4]), 0);
+    assert_eq!(number_of_many(thousand, [5, 2, 2998, 4]), 12);
 }

@@ -58,6 +58,43 @@ pub fn gemm(
     Refusal::of(Routine::Gemm, number)
 }
 
+/// C ← α·A·op(B) + β·C for one A and many items, each with its own B and C; every C becomes what its own [`gemm`] would
+/// make of it. A is m by k, op(B) k by n and C m by n. There are 0 to 1000 items: item i has its B at `i * b_stride` of
+/// `b` and its C at `i * c_stride` of `c`. The stride of C is at least what C needs, that of B may be 0.
+///
+/// If `lda` is m, A is read where it stands, and `pack` may be empty. Otherwise A's columns are first copied to the
+/// beginning of `pack`, without padding, unless m, n, k, α or the number of items is zero; `pack` has m·k elements or
+/// more, and what is not copied over keeps its content. Ok has the elements copied: m·k, or 0.
+///
+/// # Example
+///
+/// The moments at both ends of a member from the rotations of its ends, for three load cases:
+///
+/// ```
+/// use thamrunlek::{gemm_many, Blocks, Transpose::No};
+///
+/// let member = [4.0, 2.0, 0.0, 2.0, 4.0, 0.0]; // 2 by 2, with leading dimension 3
+/// let rotations = [1.0, 0.0, 0.5, -0.5, 1.0, 1.0];
+/// let (mut moments, mut pack) = ([0.0; 6], [0.0; 4]);
+/// let blocks = Blocks::default();
+/// let copied =
+///     gemm_many(No, 2, 1, 2, 1.0, &member, 3, &rotations, 2, 2, 0.0, &mut moments, 2, 2, 3, &mut pack, blocks)?;
+/// assert_eq!(moments, [4.0, 2.0, 1.0, -1.0, 6.0, 6.0]);
+/// assert_eq!(pack[..copied], [4.0, 2.0, 2.0, 4.0]);
+/// # Ok::<(), thamrunlek::Refusal>(())
+/// ```
+pub fn gemm_many(
+    transb: Transpose, m: i32, n: i32, k: i32, alpha: f64, a: &[f64], lda: i32, b: &[f64], ldb: i32, b_stride: i32,
+    beta: f64, c: &mut [f64], ldc: i32, c_stride: i32, items: i32, pack: &mut [f64], blocks: Blocks,
+) -> Result<usize, Refusal> {
+    let (transb, Blocks { width, size }) = (transb.code(), blocks);
+    let raw::ManyEnd { number, copied } = raw::gemm_many(
+        transb, m, n, k, alpha, a, lda, b, ldb, b_stride, beta, c, ldc, c_stride, items, pack, width, size,
+    );
+    Refusal::of(Routine::Gemm, number)?;
+    Ok(copied as usize)
+}
+
 /// C ← α·A·B + β·C (side left, A of order m) or C ← α·B·A + β·C (side right, A of order n). A is symmetric and only
 /// its triangle `uplo` is read; B and C are m by n.
 pub fn symm(
@@ -167,5 +204,10 @@ mod tests {
         assert_eq!(text(Routine::Trsm, 11), "DTRSM: argument 11 (ldb) is below 1 or below the rows of its matrix");
         assert_eq!(text(Routine::Symm, 11), "DSYMM: argument 11 (c) is shorter than its matrix needs");
         assert_eq!(text(Routine::Gemm, 30), "DGEMM: the strip width or block size is not 0 to 64");
+        assert_eq!(text(Routine::Gemm, 42), "DGEMM: the number of items is not 0 to 1000");
+        let stride = "DGEMM: a stride is negative, or that of C is below what its matrix needs";
+        assert_eq!(text(Routine::Gemm, 43), stride);
+        let pack = "DGEMM: the pack area is shorter than the m * k elements that are copied";
+        assert_eq!(text(Routine::Gemm, 44), pack);
     }
 }

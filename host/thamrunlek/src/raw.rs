@@ -2,7 +2,8 @@
 //!
 //! A routine takes any numbers at all and gives 0, or the number of the first bad argument; refused, it writes nothing.
 //! [`Refusal`](crate::Refusal) says what a number means. Codes are character numbers, as `'N' as i32`. A run of a call
-//! sheet takes any words, too. Its number is in its [`RunEnd`], and that of a solve in its [`SolveEnd`].
+//! sheet takes any words, too. Its number is in its [`RunEnd`], that of a solve in its [`SolveEnd`], and that of GEMM
+//! of many items in its [`ManyEnd`].
 //!
 //! The library reads and writes nothing outside the slices; that is part of what is proved of it. It keeps no
 //! pointer, so these functions are safe on any arguments.
@@ -18,6 +19,11 @@ extern "C" {
         transa: i32, transb: i32, m: i32, n: i32, k: i32, alpha: f64, a: *const f64, a_len: usize, lda: i32,
         b: *const f64, b_len: usize, ldb: i32, beta: f64, c: *mut f64, c_len: usize, ldc: i32, w: i32, r: i32,
     ) -> i32;
+    pub fn tl_dgemm_many(
+        transb: i32, m: i32, n: i32, k: i32, alpha: f64, a: *const f64, a_len: usize, lda: i32, b: *const f64,
+        b_len: usize, ldb: i32, b_stride: i32, beta: f64, c: *mut f64, c_len: usize, ldc: i32, c_stride: i32,
+        items: i32, pack: *mut f64, pack_len: usize, w: i32, r: i32,
+    ) -> ManyEnd;
     pub fn tl_dsymm(
         side: i32, uplo: i32, m: i32, n: i32, alpha: f64, a: *const f64, a_len: usize, lda: i32, b: *const f64,
         b_len: usize, ldb: i32, beta: f64, c: *mut f64, c_len: usize, ldc: i32, w: i32, r: i32,
@@ -56,6 +62,34 @@ pub fn gemm(
     let (b, b_len) = (b.as_ptr(), b.len());
     let (c, c_len) = (c.as_mut_ptr(), c.len());
     unsafe { tl_dgemm(transa, transb, m, n, k, alpha, a, a_len, lda, b, b_len, ldb, beta, c, c_len, ldc, w, r) }
+}
+
+/// What GEMM of many items hands back.
+#[repr(C)]
+#[derive(Clone, Copy, Debug, PartialEq, Eq)]
+pub struct ManyEnd {
+    /// 0, or the number of the first bad argument.
+    pub number: i32,
+    /// The elements of A that were copied into the pack area.
+    pub copied: u64,
+}
+
+/// [`crate::gemm_many`] on a raw code and block sizes.
+#[inline]
+pub fn gemm_many(
+    transb: i32, m: i32, n: i32, k: i32, alpha: f64, a: &[f64], lda: i32, b: &[f64], ldb: i32, b_stride: i32,
+    beta: f64, c: &mut [f64], ldc: i32, c_stride: i32, items: i32, pack: &mut [f64], w: i32, r: i32,
+) -> ManyEnd {
+    let (a, a_len) = (a.as_ptr(), a.len());
+    let (b, b_len) = (b.as_ptr(), b.len());
+    let (c, c_len) = (c.as_mut_ptr(), c.len());
+    let (pack, pack_len) = (pack.as_mut_ptr(), pack.len());
+    unsafe {
+        tl_dgemm_many(
+            transb, m, n, k, alpha, a, a_len, lda, b, b_len, ldb, b_stride, beta, c, c_len, ldc, c_stride, items, pack,
+            pack_len, w, r,
+        )
+    }
 }
 
 /// [`crate::symm`] on raw codes and block sizes.

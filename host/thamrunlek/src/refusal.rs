@@ -52,7 +52,8 @@ impl Routine {
 
 /// A refused call: it wrote nothing. Its number is that of the first bad argument: the strip width and block size
 /// (30) are tested first, then codes, sizes and leading dimensions in the order of the arguments, then the lengths of
-/// the arrays in the same order.
+/// the arrays in the same order. [`gemm_many`](crate::gemm_many) has GEMM's numbers; it tests the number of items (42)
+/// and the strides (43) before the arrays, and the pack area (44) after them.
 #[derive(Clone, Copy, Debug, PartialEq, Eq)]
 pub struct Refusal {
     routine: Routine,
@@ -73,14 +74,24 @@ impl Refusal {
         self.routine
     }
 
-    /// The number: the bad argument's place, or 30.
+    /// The number: the bad argument's place, or 30, or 42 to 44.
     pub fn number(&self) -> i32 {
         self.number
     }
 
-    /// The bad argument's name, unless the number is 30.
+    /// The bad argument's name, if the number is its place.
     pub fn argument(&self) -> Option<&'static str> {
         self.routine.arguments().get(self.number as usize - 1).copied()
+    }
+}
+
+/// What is wrong if the number is no argument's place.
+fn fault_without_place(number: i32) -> &'static str {
+    match number {
+        42 => "the number of items is not 0 to 1000",
+        43 => "a stride is negative, or that of C is below what its matrix needs",
+        44 => "the pack area is shorter than the m * k elements that are copied",
+        _ => "the strip width or block size is not 0 to 64",
     }
 }
 
@@ -88,7 +99,7 @@ impl fmt::Display for Refusal {
     fn fmt(&self, f: &mut fmt::Formatter) -> fmt::Result {
         let name = self.routine.name();
         let Some(argument) = self.argument() else {
-            return write!(f, "{name}: the strip width or block size is not 0 to 64");
+            return write!(f, "{name}: {}", fault_without_place(self.number));
         };
         let fault = match argument {
             "side" | "uplo" | "trans" | "transa" | "transb" | "diag" => "is not a code that it takes",

@@ -1,11 +1,11 @@
-//! The rows of document 01's table, through the safe functions, an example of document 02, through the C function, and
-//! what solves and runs report.
+//! The rows of document 01's table, through the safe functions, an example of document 02, through the C function, what
+//! solves and runs report, and GEMM of many items.
 
 use thamrunlek::Diagonal::{NonUnit, Unit};
 use thamrunlek::Side::{Left, Right};
 use thamrunlek::Transpose::{No, Yes};
 use thamrunlek::Triangle::{Lower, Upper};
-use thamrunlek::{gemm, raw, run, symm, syr2k, syrk, trmm, trsm, Blocks, Cursor, Refusal, Solved};
+use thamrunlek::{gemm, gemm_many, raw, run, symm, syr2k, syrk, trmm, trsm, Blocks, Cursor, Refusal, Solved};
 
 const P: f64 = 9007199254740992.0;
 
@@ -143,4 +143,42 @@ fn a_run_names_the_record_with_the_zero() {
     };
     assert_eq!([zero(0, 0, 3), zero(1, 1, 1), zero(2, 0, 1), zero(2, 1, 9)], [None, Some(1), None, Some(2)]);
     assert_eq!([zero(0, 0, 9), zero(3, 0, 9)], [Some(1), None]);
+}
+
+/// Document 02, K9: every C is what its own GEMM gives, and A is copied unless lda is m.
+#[test]
+fn many_items_share_an_a() {
+    let (padded, b) = ([1., 3., 9., 2., 4.], [5., 7., 6., 8.]);
+    for (width, size) in [(0, 0), (64, 64), (1, 1), (2, 3), (3, 2)] {
+        let many = |a: &[f64], lda, b_stride, c_stride, items, pack: &mut [f64]| {
+            let (mut c, blocks) = ([-1.; 6], Blocks { width, size });
+            let copied =
+                gemm_many(No, 2, 1, 2, 1., a, lda, &b, 2, b_stride, 0., &mut c, 2, c_stride, items, pack, blocks);
+            copied.map(|copied| (c, copied)).map_err(|refusal| refusal.number())
+        };
+        let mut pack = [7.; 5];
+        assert_eq!(many(&padded, 3, 2, 3, 2, &mut pack), Ok(([19., 43., -1., 22., 50., -1.], 4)));
+        assert_eq!(pack, [1., 3., 2., 4., 7.]);
+        assert_eq!(many(&[1., 3., 2., 4.], 2, 0, 3, 2, &mut []), Ok(([19., 43., -1., 19., 43., -1.], 0)));
+        assert_eq!(many(&[], 3, 2, 3, 0, &mut []), Ok(([-1.; 6], 0)));
+        assert_eq!(many(&padded, 3, -1, 3, 1001, &mut []), Err(42));
+        assert_eq!(many(&padded, 3, 2, 1, 0, &mut []), Err(43));
+        assert_eq!(many(&padded, 3, 3, 5, 2, &mut []), Err(9));
+        assert_eq!(many(&padded, 3, 2, 5, 2, &mut []), Err(12));
+        assert_eq!(many(&padded, 3, 2, 3, 2, &mut [7.; 3]), Err(44));
+    }
+}
+
+/// Where nothing is copied, the pack area of the C function may be null.
+#[test]
+fn no_pack_area_where_none_is_needed() {
+    const N: i32 = 'N' as i32;
+    let (a, mut c) = ([2., 3.], [0.; 4]);
+    let (x, z, none) = (a.as_ptr(), c.as_mut_ptr(), std::ptr::null_mut());
+    let call = |lda, items| unsafe {
+        raw::tl_dgemm_many(N, 2, 1, 1, 1., x, 2, lda, x, 2, 1, 1, 0., z, 4, 2, 2, items, none, 0, 0, 0)
+    };
+    let ends = [call(3, 0), call(3, 2), call(2, 2)].map(|end| (end.number, end.copied));
+    assert_eq!(ends, [(0, 0), (44, 0), (0, 0)]);
+    assert_eq!(c, [4., 6., 6., 9.]);
 }

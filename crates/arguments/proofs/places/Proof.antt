@@ -2,13 +2,13 @@
 -- Assumes nothing.
 use Rattle.definitions.specs.Check.{places, arrays}
 use Rattle.definitions.proofs.CheckLaws.{column, placeIn}
-use Rattle.arguments.specs.Tests.{codes, sizes, leading, lengths, columns, rowOf}
+use Rattle.arguments.specs.Tests.{codes, sizes, leading, lengths, words, columns, rowOf}
 use borrow.Author.Needs.{needs}
 use Rattle.arguments.proofs.places.Statement.{statement}
 use Rattle.arguments.proofs.places.Tie as tie
 
 pub places-spec : {M : Type 1} → statement M
-unfolding rowOf columns codes sizes leading lengths column placeIn places arrays
+unfolding rowOf columns words codes sizes leading lengths column placeIn places arrays
 places-spec =
     tie.close
     (tie.spec

@@ -1,9 +1,9 @@
 //! Makes all calls and sheets of the comparison with the library alone and prints one line: the build in use, how many
 //! results there were, and their digest. The digest is the same for every build on every machine.
 
-use compare::{calls, compare_runs, library, library_run, sheet, Case, Random};
+use compare::{calls, compare_runs, library, library_run, many, sheet, Case, Random};
 use reference::machine::{End, Lent};
-use reference::{Done, ROUTINES};
+use reference::{Done, ManyDone, ROUTINES};
 use std::cell::RefCell;
 
 /// A digest of numbers and elements; all NaNs are alike.
@@ -36,6 +36,14 @@ fn main() {
                 digest.borrow_mut().add_result(&[number, zero], &[&out]);
             });
         }
+    }
+    for calls in many::calls::ALL {
+        calls(&mut |test, index, make| {
+            let many::Case { many, a: [a, _], b: [b, _], c: [mut c, _], pack: [mut pack, _] } =
+                make(&mut Random::of(test, index));
+            let ManyDone { number, copied } = many::library(&many, &a, &b, &mut c, &mut pack);
+            digest.borrow_mut().add_result(&[number, copied as i32], &[&c, &pack]);
+        });
     }
     let recorded = |words: &[i32], scalars: &[f64], lent: &mut Lent, p: i32, s: i32, budget: u32| {
         let end = library_run(words, scalars, lent, p, s, budget);

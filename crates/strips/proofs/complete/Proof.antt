@@ -1,4 +1,4 @@
--- `blas::complete` goes through the strips in turn: what stands after each is one strip of all columns, or rows, so far, and it reports what the call does.
+-- `complete` goes through the strips in turn: what stands after each is one strip of all columns, or rows, so far, and it reports what the call does.
 -- Assumes nothing.
 use Prim.Native.Nat.{_-_, _≤_, _<_}
 use mathlib.Core.Path.{_≡_, refl, sym, _∙_}
@@ -9,10 +9,10 @@ use mir.ValLaws.{toZ-ofZ}
 use Rattle.definitions.specs.Call.{extent}
 use Rattle.definitions.specs.Element.{zeroOf, strip}
 use Rattle.definitions.proofs.Strips.{strip-none}
 use Rattle.strips.proofs.Lent.{fits-still, some-lines, strip-next, strips-end, length-strip}
 use native.Mathlib.Omega.{arith}
-use Rattle.blas.proofs.complete.Statement.{statement}
-use Rattle.blas.proofs.complete.Tie as tie
+use Rattle.strips.proofs.complete.Statement.{statement}
+use Rattle.strips.proofs.complete.Tie as tie
 
 abbrev Inv-loop : tie.InvT-loop
 Inv-loop call a b out₀ w r d most zero₀ from₀ out zero from =

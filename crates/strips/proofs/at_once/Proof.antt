@@ -2,10 +2,10 @@
 -- Assumes nothing.
 use mathlib.Core.Path.{ap}
 use native.Mathlib.Omega.{arith}
 use Rattle.strips.specs.Lengths.{widest}
 use borrow.Author.Needs.{needs}
-use Rattle.blas.proofs.at_once.Statement.{statement}
-use Rattle.blas.proofs.at_once.Tie as tie
+use Rattle.strips.proofs.at_once.Statement.{statement}
+use Rattle.strips.proofs.at_once.Tie as tie
 
 enum-told : tie.Need-enum-told
 enum-told c = search needs
