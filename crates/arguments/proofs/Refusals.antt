@@ -24,6 +24,7 @@ kept : List ℕ → List Argument → List Place
 kept row [] = []
 kept row (x ∷ xs) = let rest = kept row xs in if eqb (getD row (column x) 0) 0 then rest else (x at getD row (column x) 0 ∷ rest)
 
+-- Those of two lists in turn.
 kept-both : (row : List ℕ) (xs ys : List Argument) → kept row (xs ++ ys) ≡ kept row xs ++ kept row ys
 unfolding kept
 kept-both row [] ys = refl
@@ -72,6 +73,7 @@ module _ (g : Args) (row : List ℕ) (t : row ≡ rowOf (g .routine)) where
   arrays-tested zero = first-bad g row lengths ∙ ap (λ (r : List ℕ). firstBad g (kept r lengths)) t ∙ ap (firstBad g) (same-table (g .routine) .1)
   arrays-tested (suc s) = later g row s lengths ∙ rw (eqb·suc-zero s)
 
+  -- the places and then the arrays are one list of tests
   both : (if eqb (firstBad g (places (g .routine))) 0 then firstBad g (arrays (g .routine)) else firstBad g (places (g .routine))) ≡ firstBad g (places (g .routine) ++ arrays (g .routine))
   unfolding columns words codes sizes leading lengths tests
   both =

@@ -67,6 +67,10 @@ refusal w r g t pack =
 
 -- ---- the call
 
+-- What the call has copied. (A refused one has copied nothing.)
+abbrev pub copiedBy : ℤ → ℤ → Args → Items → ℕ → ℕ
+copiedBy w r g t pack = if eqb (refusal w r g t pack) 0 then copied (callOf g) (nat (t .count)) else 0
+
 -- What an item leaves in the array of all C, if `own` is what it leaves of its own part from its own B.
 unfoldable pub item : (List Float → List Float → List Float) → ℕ → ℕ → List Float → List Float → ℕ → List Float
 item own strideb stridec b out i = take (i * stridec) out ++ own (drop (i * strideb) b) (drop (i * stridec) out)
@@ -85,12 +89,13 @@ abbrev pub lastArgs : ℤ → ℤ → ℤ → ℤ → Float → ℕ → ℤ → 
 lastArgs transb m n k alpha lena lda lenb ldb strideb beta lenc ldc stridec items =
     Direct.gemmArgs (pos 'N') transb m n k alpha lena lda (fromLast lenb strideb items) ldb beta (fromLast lenc stridec items) ldc
 
--- "Every C is what its own GEMM gives". Refused, the call writes nothing and has copied nothing.
+-- "Every C is what its own GEMM gives". Refused, the call writes nothing.
 unfoldable pub many : ℤ → ℤ → ℤ → ℤ → Float → List Float → ℤ → List Float → ℤ → ℤ → Float → List Float → ℤ → ℤ → ℤ → List Float → ℤ → ℤ → Done
 many transb m n k alpha a lda b ldb strideb beta c ldc stridec items pack w r =
     let g = lastArgs transb m n k alpha (length a) lda (length b) ldb strideb beta (length c) ldc stridec items in
-    let e = refusal w r g (itemsOf items strideb stridec) (length pack) in
+    let t = itemsOf items strideb stridec in
+    let e = refusal w r g t (length pack) in
     let own : List Float → List Float → List Float = λ x y. Direct.gemm (pos 'N') transb m n k alpha a lda x ldb beta y ldc w r .array in
-    let n = if eqb e 0 then copied (callOf g) (nat items) else 0 in
+    let n = copiedBy w r g t (length pack) in
     let all = fold (item own (nat strideb) (nat stridec) b) (nat items) c in
     record { end = record { number = pos e; copied = n }; array = if eqb e 0 then all else c; pack = packed (callOf g) a n pack }

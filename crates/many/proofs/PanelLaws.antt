@@ -49,7 +49,7 @@ copied-panel c count some apart = rw (some, apart, and-true) (by-test (untested 
 
 -- ---- a part of B that may not be there
 
-pub least-length : (x len : ℕ) → len - least x len ≡ len - x
+least-length : (x len : ℕ) → len - least x len ≡ len - x
 unfolding least
 least-length x len = by-test (ltb x len) (λ e. rw e) (λ e. rw e (omega (arith, ltb-false x len e)))
 

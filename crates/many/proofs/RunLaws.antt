@@ -23,7 +23,7 @@ use Rattle.definitions.specs.Storage.{needed, stored}
 use Rattle.definitions.specs.Call.{hasM, hasK, inPlace, empty, startOnly, storedAs, shapeA, shapeB, shapeC}
 use Rattle.definitions.specs.Check.{nat, untested, idle, badWidth, width, callOf}
 use Rattle.definitions.specs.Element.{result}
-use Rattle.definitions.specs.Many.{copies, copied, packed, fromLast, refusal, item, itemsOf, lastArgs, many}
+use Rattle.definitions.specs.Many.{copies, copied, packed, fromLast, refusal, copiedBy, item, itemsOf, lastArgs, many}
 use Rattle.definitions.specs.declared.Routine.{Routine}
 use Rattle.definitions.specs.declared.Routine.the-variants.{Gemm}
 use Rattle.definitions.specs.declared.Transpose.{Transpose}
@@ -36,7 +36,7 @@ use Rattle.definitions.proofs.CheckLaws.{above-zero, in-range}
 use Rattle.definitions.proofs.Fits.{Room, Fits, entry-inside, accepted-fits}
 use Rattle.definitions.proofs.ManyLaws.{none-in-both, when-accepted, items-result}
 use Rattle.strips.specs.Lengths.{FitsArrays}
-use Rattle.many.specs.Panel.{panelSize, panelOf, overPanel, Prepared, OfLast, copiedBy}
+use Rattle.many.specs.Panel.{panelSize, panelOf, overPanel, Prepared, OfLast}
 use Rattle.many.proofs.PanelLaws.{copied-own, copied-panel}
 
 -- columns without padding need as many elements as they have
@@ -74,11 +74,11 @@ module _ (c : Call) (is : c .routine ≡ Gemm) (plain : c .transa ≡ No) (la lb
   unfolding panelSize untested
   no-panel s = by-test (empty c) (λ e. rw e) (λ e. rw (e, s))
 
-  pub columns-fit : c .m ≤ c .lda
+  columns-fit : c .m ≤ c .lda
   unfolding shapeA storedAs
   columns-fit = rw plain at (gemm-fits .ld-a)
 
-  pub columns-there : startOnly c ≡ false → needed (c .lda) (c .m) (c .k) ≤ la
+  columns-there : startOnly c ≡ false → needed (c .lda) (c .m) (c .k) ≤ la
   unfolding shapeA storedAs
   columns-there s = rw plain at (gemm-fits .room-a s)
 
@@ -100,12 +100,12 @@ module _ (c : Call) (is : c .routine ≡ Gemm) (plain : c .transa ≡ No) (la lb
     room-c = omega (arith, gemm-fits .room-c);
   }
 
-  pub panel-fits : (lb′ lc′ : ℕ) → lb ≤ lb′ → lc ≤ lc′ → FitsArrays (overPanel c) (panelSize c) lb′ lc′
+  panel-fits : (lb′ lc′ : ℕ) → lb ≤ lb′ → lc ≤ lc′ → FitsArrays (overPanel c) (panelSize c) lb′ lc′
   unfolding overPanel inPlace
   panel-fits lb′ lc′ hb hc = subst (λ (f : Routine). Fits f (overPanel c) (panelSize c) (if inPlace f then lc′ else lb′) lc′) (sym is) (over lb′ lc′ hb hc)
 
   -- C has an element
-  pub some-C : 0 < lc
+  some-C : 0 < lc
   unfolding shapeC
   some-C = omega (arith, entry-inside (c .ldc) (c .m) (c .n) lc (gemm-fits .room-c) 0 0 (h .some-rows) (h .some-columns))
 
@@ -113,11 +113,11 @@ module _ (c : Call) (is : c .routine ≡ Gemm) (plain : c .transa ≡ No) (la lb
 
   module _ (count n : ℕ) (some : eqb count 0 ≡ false) (en : n ≡ copied c count) (a pack packs : List Float) (ea : la ≡ length a) (np : n ≤ length pack) (ep : packs ≡ packed c a n pack) where
     -- where a copy is made the panel is all that is copied
-    by-owner : (P : Bool → Type 0) → (c .lda ≡ c .m → P true) → (eqb (c .lda) (c .m) ≡ false → panelSize c ≡ n → P (eqb n 0)) → P (eqb n 0)
+    by-owner : (P : Bool → Type 0) → (c .lda ≡ c .m → P true) → (panelSize c ≡ n → P (eqb n 0)) → P (eqb n 0)
     by-owner P own copy =
         by-test (eqb (c .lda) (c .m))
         (λ e. let z : n ≡ 0 = en ∙ sym (copied-own c count (eqb-true _ _ e)) in subst P (sym (eq-eqb n 0 z)) (own (eqb-true _ _ e)))
-        (λ e. copy e (copied-panel c count some e ∙ sym en))
+        (λ e. copy (copied-panel c count some e ∙ sym en))
 
     packs-length : length packs ≡ length pack
     unfolding packed
@@ -131,7 +131,7 @@ module _ (c : Call) (is : c .routine ≡ Gemm) (plain : c .transa ≡ No) (la lb
         (λ s.
         let there = subst (λ (ld : ℕ). needed ld (c .m) (c .k) ≤ la) own (columns-there s) in
         omega (arith, whole-panel s, needed-full (c .m) (c .k) (h .some-rows) (some-terms s), there, ea)))
-        (λ apart e. by-test (eqb n 0)
+        (λ e. by-test (eqb n 0)
         (λ z. omega (arith, e, eqb-true n 0 z))
         (λ z. subst (λ (l : List Float). panelSize c ≤ length l) (sym (if-false (eqb n 0) a packs z)) (omega (arith, e, packs-length))))
 
@@ -152,12 +152,12 @@ module _ (c : Call) (is : c .routine ≡ Gemm) (plain : c .transa ≡ No) (la lb
         getD-take (panelSize c) (if eqb n 0 then a else packs) p nan inside
         ∙ by-owner (λ b. getD (if b then a else packs) p nan ≡ getD a (l * c .lda + i) nan)
         (λ own. ap (λ (ld : ℕ). getD a (l * ld + i) nan) (sym own))
-        (λ apart e.
+        (λ e.
         ap (λ (x : List Float). getD x p nan) (if-false (eqb n 0) a packs (ne-eqb n 0 (λ y. omega arith)))
         ∙ copied-entry i l hi (omega arith))
 
     -- all that the items ask for
-    pub all-prepared : (lenb lenc strideb stridec : ℕ) → lb ≡ lenb - (count - 1) * strideb → lc ≡ lenc - (count - 1) * stridec
+    all-prepared : (lenb lenc strideb stridec : ℕ) → lb ≡ lenb - (count - 1) * strideb → lc ≡ lenc - (count - 1) * stridec
         → Prepared c (eqb n 0) a packs lenb lenc strideb stridec count
     all-prepared lenb lenc strideb stridec eb ec = record {
       is-gemm = is;
@@ -199,10 +199,6 @@ module _ (w r : ℤ) (g : Args) (t : Items) (lena lenb lenc pack : ℕ) (of : Of
       subst (λ (n : ℕ). Fits (callOf g .routine) (callOf g) n (fromLast lenb (t .strideb) (t .count)) (fromLast lenc (t .stridec) (t .count))) (of .has-a)
       (subst (λ (n : ℕ). Fits (callOf g .routine) (callOf g) (g .lena) n (fromLast lenc (t .stridec) (t .count))) (of .has-b)
       (subst (λ (n : ℕ). Fits (callOf g .routine) (callOf g) (g .lena) (g .lenb) n) (of .has-c) f))
-
-  is-gemm : callOf g .routine ≡ Gemm
-  unfolding callOf
-  is-gemm = of .is-gemm
 
   module _ (c : Call) (strideb stridec count n : ℕ) (ec : c ≡ callOf g) (eb : strideb ≡ nat (t .strideb)) (es : stridec ≡ nat (t .stridec)) (et : count ≡ nat (t .count)) (en : n ≡ copied c count) where
     call-fits : 0 < count → idle c ≡ false → Fits (c .routine) c lena (fromLast lenb (t .strideb) (t .count)) (fromLast lenc (t .stridec) (t .count))

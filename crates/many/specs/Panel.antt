@@ -3,15 +3,13 @@ use Prim.Native.Nat.{ℕ, _-_, _*_, _≤_, _<_}
 use mathlib.Core.Path.{_≡_}
 use mathlib.Core.Bool.{Bool, false}
 use mathlib.Core.List.{List}
-use lib.Dec.{eqb}
-use lib.IntN.{ℤ}
 use lib.ListN.{length, take}
 use lib.Ieee.{Float, nan}
 use Rattle.arrays.specs.Choice.{if_then_else_}
 use Rattle.definitions.specs.Number.{isZero}
 use Rattle.definitions.specs.Storage.{stored}
-use Rattle.definitions.specs.Check.{nat, untested, callOf}
-use Rattle.definitions.specs.Many.{copied, fromLast, refusal}
+use Rattle.definitions.specs.Check.{untested, callOf}
+use Rattle.definitions.specs.Many.{fromLast}
 use Rattle.definitions.specs.declared.Routine.the-variants.{Gemm}
 use Rattle.definitions.specs.declared.Transpose.the-variants.{No}
 use Rattle.definitions.specs.declared.Args.{Args}
@@ -66,7 +64,3 @@ pub record OfLast (g : Args) (t : Items) (lena lenb lenc : ℕ) : Type 0 where
   pub has-a : g .lena ≡ lena
   pub has-b : g .lenb ≡ fromLast lenb (t .strideb) (t .count)
   pub has-c : g .lenc ≡ fromLast lenc (t .stridec) (t .count)
-
--- What the call has copied: nothing if it is refused.
-abbrev pub copiedBy : ℤ → ℤ → Args → Items → ℕ → ℕ
-copiedBy w r g t pack = if eqb (refusal w r g t pack) 0 then copied (callOf g) (nat (t .count)) else 0

@@ -15,7 +15,7 @@ ghost use Rattle.definitions.specs.Storage.{stored, needed};
 ghost use Rattle.definitions.specs.Element.{result};
 ghost use Rattle.definitions.specs.Check as Check;
 ghost use Rattle.definitions.specs.Many as Many;
-ghost use Rattle.many.specs.Panel.{panelSize, overPanel, EachFits, Prepared, OfLast, copiedBy};
+ghost use Rattle.many.specs.Panel.{panelSize, overPanel, EachFits, Prepared, OfLast};
 ghost use Rattle.strips.specs.Lengths.{FitsArrays};
 use definitions::Args;
 use definitions::Call;
@@ -269,11 +269,11 @@ fn run(
     pack: &mut [f64],
 ) -> ManyEnd
     requires { ⌜ OfLast g t (length (now a)) (length (now b)) (length (now c)) ⌝ }
-    ensures { λ x. ⌜ (x .number ≡ pos (Many.refusal w r g t (length (now (pack .entry))))) × (x .copied ≡ copiedBy w r g t (length (now (pack .entry))))
+    ensures { λ x. ⌜ (x .number ≡ pos (Many.refusal w r g t (length (now (pack .entry))))) × (x .copied ≡ Many.copiedBy w r g t (length (now (pack .entry))))
         × (now (c .exit) ≡ (if eqb (Many.refusal w r g t (length (now (pack .entry)))) 0
         then fold (Many.item (result (Check.callOf g) (now (a .entry))) (Check.nat (t .strideb)) (Check.nat (t .stridec)) (now (b .entry))) (Check.nat (t .count)) (now (c .entry))
         else now (c .entry)))
-        × (now (pack .exit) ≡ Many.packed (Check.callOf g) (now (a .entry)) (copiedBy w r g t (length (now (pack .entry)))) (now (pack .entry))) ⌝ }
+        × (now (pack .exit) ≡ Many.packed (Check.callOf g) (now (a .entry)) (Many.copiedBy w r g t (length (now (pack .entry)))) (now (pack .entry))) ⌝ }
 {
     let call = arguments::call_of(g);
     let number = refusal(w, r, g, call, t, pack.len());

@@ -1,10 +1,9 @@
 -- `needed` is the number of elements that an array needs: the product of two 32-bit numbers fits.
 -- Assumes nothing.
 use Prim.Native.Nat.{_*_, _-_, _≤_}
-use native.Mathlib.Nat.{mul-le-mul}
 use native.Mathlib.Omega.{arith}
 use Rattle.definitions.specs.Storage.{needed}
-use Rattle.arguments.proofs.Room.{needed-empty, needed-is}
+use Rattle.arguments.proofs.Room.{product-fits, needed-empty, needed-is}
 use Rattle.arguments.proofs.needed.Statement.{statement}
 use Rattle.arguments.proofs.needed.Tie as tie
 
@@ -15,11 +14,8 @@ returns c = rw (c .if1 .taken)
 returns-2 : tie.Need-returns-2
 returns-2 c = needed-empty _ _ _ (c .if2 .taken)
 
-product : (c : tie.Else2) → c .before .before .args .ld * (c .before .before .args .q - 1) ≤ 4294967295 * 4294967294
-product c =
-    let l : c .before .before .args .ld ≤ 4294967295 = omega arith in
-    let q : c .before .before .args .q - 1 ≤ 4294967294 = omega arith in
-    mul-le-mul l q
+product : (c : tie.Else2) → c .before .before .args .ld * (c .before .before .args .q - 1) ≤ 4294967295 * 4294967295
+product c = product-fits _ _ (omega arith) (omega arith)
 
 mul-result : tie.Need-mul-result
 mul-result c = omega (arith, product c)

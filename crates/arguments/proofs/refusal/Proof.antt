@@ -1,19 +1,17 @@
 -- `refusal` is the number of a refusal: 30, a place, or an array.
 -- Assumes nothing.
-use mathlib.Core.Path.{_≡_, sym, ap, _∙_}
+use mathlib.Core.Path.{_≡_, sym, _∙_}
 use mathlib.Core.Bool.{_||_}
-use mir.Syntax.{w32}
-use mir.ValLaws.{toZ-ofZ}
 use Rattle.definitions.specs.Check.{badWidth}
+use Rattle.arguments.proofs.Signed.{same}
 use Rattle.arguments.proofs.Refusals.{refusal-width, refusal-is}
 use Rattle.arguments.proofs.refusal.Statement.{statement}
 use Rattle.arguments.proofs.refusal.Tie as tie
 
 widths : (c : tie.After-bad-width2) → (c .before .bad-width .result || c .bad-width2 .result) ≡ (badWidth (c .before .before .args .w) || badWidth (c .before .before .args .r))
 widths c =
-    let e = toZ-ofZ w32 (c .before .before .args .w) (c .before .before .fits .w) in
-    let d = toZ-ofZ w32 (c .before .before .args .r) (c .before .before .fits .r) in
-    λ i. (c .before .bad-width .ensures ∙ ap badWidth e) i || (c .bad-width2 .ensures ∙ ap badWidth d) i
+    let s = c .before .before in
+    λ i. same badWidth (s .args .w) (s .fits .w .sfits) (c .before .bad-width .ensures) i || same badWidth (s .args .r) (s .fits .r .sfits) (c .bad-width2 .ensures) i
 
 returns : tie.Need-returns
 returns c = refusal-width (c .before .before .before .args .w) (c .before .before .before .args .r) (c .before .before .before .args .g) (sym (widths (c .before)) ∙ c .if1 .taken)

@@ -1,13 +1,14 @@
 -- `from_last` is the difference, or 0 where there is none.
 -- Assumes nothing.
-use Prim.Native.Nat.{_-_, _*_, _≤_}
+use Prim.Native.Nat.{_-_}
 use mathlib.Core.Path.{_≡_, ap, _∙_}
-use native.Mathlib.Nat.{mul-le-mul, zero-mul, sub-zero}
+use native.Mathlib.Nat.{zero-mul, sub-zero}
 use native.Mathlib.Omega.{arith}
 use mir.Syntax.{w32}
 use mir.ValLaws.{toZ-ofZ}
 use Rattle.definitions.specs.Check.{nat}
 use Rattle.definitions.specs.Many.{fromLast}
+use Rattle.arguments.proofs.Room.{product-fits}
 use borrow.Author.Needs.{needs}
 use Rattle.many.proofs.from_last.Statement.{statement}
 use Rattle.many.proofs.from_last.Tie as tie
@@ -22,14 +23,8 @@ returns : tie.Need-returns
 unfolding fromLast
 returns c = let e = count (c .before) in simp (← e, c .if1 .taken, zero-mul, sub-zero)
 
-product : (c : tie.After-size2) → (c .before .before .size .result - 1) * c .size2 .result ≤ 4294967294 * 4294967295
-product c =
-    let n : c .before .before .size .result - 1 ≤ 4294967294 = omega arith in
-    let s : c .size2 .result ≤ 4294967295 = omega arith in
-    mul-le-mul n s
-
 mul-before : tie.Need-mul-before
-mul-before c = omega (arith, product c)
+mul-before c = omega (arith, product-fits (c .before .before .size .result - 1) (c .size2 .result) (omega arith) (omega arith))
 
 returns-2 : tie.Need-returns-2
 unfolding fromLast

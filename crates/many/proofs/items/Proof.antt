@@ -3,7 +3,6 @@
 use Prim.Native.Nat.{_-_, _*_, _≤_}
 use mathlib.Core.Path.{_≡_, refl, ap, _∙_}
 use mathlib.Core.List.{List}
-use native.Mathlib.Nat.{mul-le-mul}
 use native.Mathlib.Numerals.{add-one}
 use native.Mathlib.Omega.{arith}
 use lib.ListN.{length, drop}
@@ -11,6 +10,7 @@ use lib.Ieee.{Float}
 use Rattle.arrays.specs.Fold.{fold}
 use Rattle.definitions.specs.Element.{result}
 use Rattle.definitions.specs.Many.{item}
+use Rattle.arguments.proofs.Room.{product-fits}
 use Rattle.many.proofs.PanelLaws.{item-length}
 use borrow.Author.Needs.{needs}
 use Rattle.many.proofs.items.Statement.{statement}
@@ -27,18 +27,10 @@ unfolding fold
 loop-holds c = (omega arith, refl, refl)
 
 mul-fromb : tie.Need-mul-fromb Inv-loop μ-loop
-mul-fromb c =
-    let s = c .before .before .before .before .before .args in
-    let i : c .before .loop .i ≤ 4294967295 = omega arith in
-    let b : s .strideb ≤ 4294967295 = omega arith in
-    omega (arith, mul-le-mul i b)
+mul-fromb c = omega (arith, product-fits (c .before .loop .i) (c .before .before .before .before .before .args .strideb) (omega arith) (omega arith))
 
 mul-fromc : tie.Need-mul-fromc Inv-loop μ-loop
-mul-fromc c =
-    let s = c .before .before .before .before .before .args in
-    let i : c .before .loop .i ≤ 4294967295 = omega arith in
-    let b : s .stridec ≤ 4294967295 = omega arith in
-    omega (arith, mul-le-mul i b)
+mul-fromc c = omega (arith, product-fits (c .before .loop .i) (c .before .before .before .before .before .args .stridec) (omega arith) (omega arith))
 
 item-requires : tie.Need-item-requires Inv-loop μ-loop
 item-requires c κs =

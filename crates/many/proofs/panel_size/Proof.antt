@@ -1,9 +1,8 @@
 -- `panel_size` is m times k, or 0.
 -- Assumes nothing.
-use Prim.Native.Nat.{_≤_}
 use mathlib.Core.Path.{sym, _∙_}
-use native.Mathlib.Nat.{mul-le-mul}
 use native.Mathlib.Omega.{arith}
+use Rattle.arguments.proofs.Room.{product-fits}
 use Rattle.many.specs.Panel.{panelSize}
 use borrow.Author.Needs.{needs}
 use Rattle.many.proofs.panel_size.Statement.{statement}
@@ -16,9 +15,7 @@ returns c = simp (sym (c .before .untested .ensures) ∙ c .if1 .taken)
 mul-result : tie.Need-mul-result
 mul-result c =
     let k = c .before .before .before .before .args .c in
-    let m : k .m ≤ 4294967295 = omega arith in
-    let l : k .k ≤ 4294967295 = omega arith in
-    omega (arith, mul-le-mul m l)
+    omega (arith, product-fits (k .m) (k .k) (omega arith) (omega arith))
 
 returns-2 : tie.Need-returns-2
 unfolding panelSize

@@ -5,8 +5,6 @@ use mathlib.Core.Path.{_≡_, sym, ap, _∙_}
 use mathlib.Core.Bool.{_||_}
 use mathlib.Core.List.{List, _∷_, []}
 use native.Mathlib.Omega.{arith}
-use mir.Syntax.{w32}
-use mir.ValLaws.{toZ-ofZ}
 use borrow.Author.Tests.{ne-eqb, lt-ltb, le-ltb}
 use Rattle.arrays.proofs.Tests.{if-false}
 use Rattle.definitions.specs.Check.{nat, callOf, badWidth}
@@ -24,9 +22,8 @@ Of s es = refusal (s .args .w) (s .args .r) (s .args .g) (s .args .t) (s .args .
 -- 30, and then the places
 widths : (c : tie.After-bad-width2) → (c .before .bad-width .result || c .bad-width2 .result) ≡ (badWidth (c .before .before .args .w) || badWidth (c .before .before .args .r))
 widths c =
-    let e = toZ-ofZ w32 (c .before .before .args .w) (c .before .before .fits .w) in
-    let d = toZ-ofZ w32 (c .before .before .args .r) (c .before .before .fits .r) in
-    λ i. (c .before .bad-width .ensures ∙ ap badWidth e) i || (c .bad-width2 .ensures ∙ ap badWidth d) i
+    let s = c .before .before in
+    λ i. same badWidth (s .args .w) (s .fits .w .sfits) (c .before .bad-width .ensures) i || same badWidth (s .args .r) (s .fits .r .sfits) (c .bad-width2 .ensures) i
 
 returns : tie.Need-returns
 unfolding refusal
