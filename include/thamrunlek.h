@@ -1,5 +1,5 @@
-/* Thamrunlek: proved Level 3 BLAS routines on double precision numbers, each callable alone, and a runner for lists of
- * calls.
+/* Thamrunlek: proved Level 3 BLAS routines on double precision numbers, each callable alone, an integer solution of
+ * triangular systems, and a runner for lists of calls.
  *
  * A matrix is stored by columns: entry (i, j), both from 0, of an array with leading dimension ld is element
  * j * ld + i. An array of p rows and q columns needs ld * (q - 1) + p elements, or none if p or q is 0. Each array is
@@ -11,7 +11,7 @@
  * Every call of a routine returns 0, or the number of its first bad argument, and then it has written nothing; TRSM
  * returns it in a SolveEnd, and GEMM of many items in a ManyEnd. The strip width and the block size are tested first
  * (30); then codes, sizes and leading dimensions, in the order of the numbers given below; then the lengths of the
- * arrays, in that order too.
+ * arrays, in that order too. The integer solution and the runner have numbers of their own.
  *
  * The result of a call is fixed to the last bit. Each element starts as +0.0 if beta is zero (the old element is not
  * read), as the old element if beta is one, and else as beta times it. Then, unless alpha is zero, each term turns the
@@ -238,6 +238,22 @@ struct SolveEnd {
 struct SolveEnd tl_dtrsm(int32_t side, int32_t uplo, int32_t transa, int32_t diag, int32_t m, int32_t n, double alpha,
                          const double *a, size_t a_len, int32_t lda, double *b, size_t b_len, int32_t ldb,
                          int32_t w, int32_t r);
+
+/* The integer solution with a triangular matrix A: the X with A * X = B, over whole numbers. Entries of A, B and X are
+ * signed 16-bit.
+ *
+ * It returns 0, and X is written; or -1, if no X of such entries satisfies every equation; or the number of the first
+ * bad argument, in the order 39, 40, 41. With -1 or a number X keeps its content.
+ *
+ * 39  uplo    L: A is lower triangular, and only its lower triangle is read. U: the same for the upper one.
+ * 39  n       the order of A, 1 to 64.
+ * 40  a       A, n by n, without padding: its leading dimension is n. It is only read. a_len elements, exactly n * n.
+ *             If one of them on the diagonal is zero, the call is refused with 41.
+ * 40  b       B. It is only read. b_len elements, exactly n.
+ * 40  x       X. It is only written. x_len elements, exactly n.
+ */
+int32_t tl_isolve(int32_t uplo, int32_t n, const int16_t *a, size_t a_len, const int16_t *b, size_t b_len,
+                  int16_t *x, size_t x_len);
 
 /* What a run of a call sheet returns.
  *

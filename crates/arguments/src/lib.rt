@@ -88,7 +88,7 @@ fn side_of(code: i32) -> Side
     }
 }
 
-fn uplo_of(code: i32) -> Triangle
+pub fn uplo_of(code: i32) -> Triangle
     ensures { λ r. ⌜ r ≡ Check.uploOf code ⌝ }
 {
     if is(b'L', code) {
@@ -124,7 +124,7 @@ fn bad_side(code: i32) -> bool
     !(is(b'L', code) | is(b'R', code))
 }
 
-fn bad_uplo(code: i32) -> bool
+pub fn bad_uplo(code: i32) -> bool
     ensures { λ r. ⌜ r ≡ Tests.badUplo code ⌝ }
 {
     !(is(b'L', code) | is(b'U', code))

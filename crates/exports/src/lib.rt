@@ -1,8 +1,9 @@
-// The direct calls, the call for many right sides and the runner of call sheets for programs in other languages: a slice is a pointer and then a length.
+// The direct calls, the call for many right sides, the integer solve and the runner of call sheets for programs in other languages: a slice is a pointer and then a length.
 ghost use mathlib.Core.Path.{_≡_};
 ghost use Rattle.definitions.specs.Direct as Direct;
 ghost use Rattle.definitions.specs.Many as Many;
 ghost use Rattle.definitions.specs.Run as Run;
+ghost use Rattle.integer_solve.specs.Equations.{Numbered};
 ghost use Rattle.records.specs.Judgement.{sheetOf, arraysOf};
 ghost use Rattle.sheet.specs.Lent.{ranOf};
 use definitions::ManyEnd;
@@ -203,6 +204,13 @@ pub extern "C" fn tl_dgemm_many(
         w,
         r,
     )
+}
+
+#[no_mangle]
+pub extern "C" fn tl_isolve(uplo: i32, n: i32, a: &[i16], b: &[i16], x: &mut [i16]) -> i32
+    ensures { λ r. ⌜ Numbered uplo n (now (a .entry)) (now (b .entry)) (now (x .entry)) r (now (x .exit)) ⌝ }
+{
+    integer_solve::number(integer_solve::solve(uplo, n, a, b, x))
 }
 
 #[no_mangle]

@@ -106,6 +106,12 @@ unfolding turn
 turn-below false k q h = h
 turn-below true k q h = omega arith
 
+-- the index of a term, and the term with an index
+pub turn-turn : (down : Bool) (k q : ℕ) → q < k → turn down k (turn down k q) ≡ q
+unfolding turn
+turn-turn false k q h = refl
+turn-turn true k q h = omega arith
+
 -- its q-th term
 pub turn-along : (down : Bool) (k l q : ℕ) {l₀ : ℕ} → l₀ ≡ turn down k l → along down l₀ q ≡ turn down k (l + q)
 unfolding along turn

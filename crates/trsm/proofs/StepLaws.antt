@@ -18,11 +18,11 @@ use Rattle.definitions.specs.declared.Diagonal.{Diagonal}
 use Rattle.definitions.specs.declared.Transpose.{Transpose}
 use Rattle.packing.specs.Factor.{Matrix, indexOf, turn}
 use Rattle.forms.specs.Forms.{opForm}
-use Rattle.packing.proofs.FactorLaws.{turn-below}
+use Rattle.packing.proofs.FactorLaws.{turn-below, turn-turn}
 use Rattle.lines.specs.Lines.{cell, grid, within, lineTerm, Room}
 use Rattle.lines.proofs.GridLaws.{grid-same, grid-at}
 use Rattle.trsm_diagonal.specs.Solve.{first, ordered, front, solveTerm, solveEnd}
-use Rattle.trsm_diagonal.proofs.OrderLaws.{turn-turn, turn-from, within-turn}
+use Rattle.trsm_diagonal.proofs.OrderLaws.{turn-from, within-turn}
 use Rattle.trsm_diagonal.proofs.StateLaws.{narrower, wider, rest-more, held}
 use Rattle.trsm.specs.Steps.{Step}
 

@@ -22,11 +22,11 @@ use Rattle.definitions.specs.Element.{divided}
 use Rattle.definitions.specs.declared.Diagonal.{Diagonal}
 use Rattle.packing.specs.Factor.{Matrix, turn}
 use Rattle.blocks.specs.Terms.{accumulate, packed}
-use Rattle.packing.proofs.FactorLaws.{turn-below}
+use Rattle.packing.proofs.FactorLaws.{turn-below, turn-turn}
 use Rattle.lines.specs.Lines.{cell, grid, within, Room}
 use Rattle.lines.proofs.GridLaws.{by-within, grid-same, grid-keep, grid-at, grid-lent}
 use Rattle.trsm_diagonal.specs.Solve.{first, ordered, sumAfter, solution, stateOf, solving, front, solveEnd, valueFactor, packedTerm, packedValue}
-use Rattle.trsm_diagonal.proofs.OrderLaws.{turn-turn, turn-from, first-one, within-turn, ordered-then}
+use Rattle.trsm_diagonal.proofs.OrderLaws.{turn-from, first-one, within-turn, ordered-then}
 use Rattle.trsm_diagonal.proofs.StateLaws as StateLaws
 use Rattle.trsm_diagonal.proofs.StateLaws.{front-in, front-out, value-is, state-start, state-done, narrower, rest-more, all-started, held}
 use Rattle.trsm_diagonal.proofs.BlockLaws.{lent-value, lent-block}

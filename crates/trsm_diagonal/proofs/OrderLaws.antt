@@ -10,16 +10,10 @@ use lib.ListN.{length, getD}
 use Rattle.arrays.specs.Update.{update}
 use Rattle.arrays.proofs.UpdateLaws.{lt-or-ge}
 use Rattle.packing.specs.Factor.{turn}
-use Rattle.packing.proofs.FactorLaws.{turn-below}
+use Rattle.packing.proofs.FactorLaws.{turn-below, turn-turn}
 use Rattle.lines.specs.Lines.{cell, within, Room}
 use Rattle.lines.proofs.GridLaws.{within-in, within-before, within-after, grid-then, grid-same, grid-same-at, grid-at}
 use Rattle.trsm_diagonal.specs.Solve.{first, ordered}
-
--- the index of an unknown, and the unknown with an index
-pub turn-turn : (down : Bool) (m q : ℕ) → q < m → turn down m (turn down m q) ≡ q
-unfolding turn
-turn-turn true m q h = omega arith
-turn-turn false m q h = refl
 
 -- the t-th of n unknowns from the p-th on, whose least index is x
 pub turn-from : (down : Bool) (m p n x t : ℕ) → p + n ≤ m → x ≡ first down m p n → t < n → turn down m (p + t) ≡ x + turn down n t

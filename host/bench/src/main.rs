@@ -5,10 +5,12 @@
 //! TRSM over the order. The peers of these three come from `peers.sh`. `bench pairs` looks for the best strip width and
 //! block size of each build, `bench choice` times the jump to the build in use, `bench rank-update` compares SYRK of
 //! order 512 with three nested loops, `bench steps` the steps of call sheets with direct calls, and `bench many` GEMM
-//! of many items with as many direct calls and, if they are there, with those of the peers.
+//! of many items with as many direct calls and, if they are there, with those of the peers. `bench isolve` times integer
+//! solutions.
 
 mod blas;
 mod choice;
+mod isolve;
 mod libraries;
 mod many;
 mod measure;
@@ -49,6 +51,7 @@ fn run(words: &[&str]) -> Result<(), String> {
         ["rank-update"] => rank_update::report(&libraries::builds()?)?,
         ["steps"] => steps::report(),
         ["many"] => many::report(&libraries::builds()?, libraries::peers()),
+        ["isolve"] => isolve::report(&libraries::builds()?),
         ["summary"] => summary::report(libraries::all()?),
         [] => table::print(&Routine::ALL, &libraries::all()?),
         names => {

@@ -14,16 +14,18 @@ mod c {
     use thamrunlek::raw::{ManyEnd, SolveEnd};
     pub type Gemm = unsafe extern "C" fn(i32, i32, i32, i32, i32, f64, Input, usize, i32, Input, usize, i32, f64, Output, usize, i32, i32, i32) -> i32;
     pub type Many = unsafe extern "C" fn(i32, i32, i32, i32, f64, Input, usize, i32, Input, usize, i32, i32, f64, Output, usize, i32, i32, i32, Output, usize, i32, i32) -> ManyEnd;
+    pub type Isolve = unsafe extern "C" fn(i32, i32, *const i16, usize, *const i16, usize, *mut i16, usize) -> i32;
     pub type Symm = unsafe extern "C" fn(i32, i32, i32, i32, f64, Input, usize, i32, Input, usize, i32, f64, Output, usize, i32, i32, i32) -> i32;
     pub type Syrk = unsafe extern "C" fn(i32, i32, i32, i32, f64, Input, usize, i32, f64, Output, usize, i32, i32, i32) -> i32;
     pub type Trmm = unsafe extern "C" fn(i32, i32, i32, i32, i32, i32, f64, Input, usize, i32, Output, usize, i32, i32, i32) -> i32;
     pub type Trsm = unsafe extern "C" fn(i32, i32, i32, i32, i32, i32, f64, Input, usize, i32, Output, usize, i32, i32, i32) -> SolveEnd;
 }
 
-/// The six routines, and GEMM of many items.
+/// The six routines, GEMM of many items and integer solutions.
 pub struct Own {
     pub gemm: c::Gemm,
     pub many: c::Many,
+    pub isolve: c::Isolve,
     symm: c::Symm,
     syrk: c::Syrk,
     syr2k: c::Symm,
@@ -51,6 +53,7 @@ impl Own {
         Own {
             gemm: raw::tl_dgemm,
             many: raw::tl_dgemm_many,
+            isolve: raw::tl_isolve,
             symm: raw::tl_dsymm,
             syrk: raw::tl_dsyrk,
             syr2k: raw::tl_dsyr2k,
@@ -65,6 +68,7 @@ impl Own {
             Ok(Own {
                 gemm: library.function("tl_dgemm")?,
                 many: library.function("tl_dgemm_many")?,
+                isolve: library.function("tl_isolve")?,
                 symm: library.function("tl_dsymm")?,
                 syrk: library.function("tl_dsyrk")?,
                 syr2k: library.function("tl_dsyr2k")?,

@@ -1,12 +1,11 @@
 //! The calls of the comparison, routine by routine.
 
 use crate::cases::{extreme, large, singular};
-use crate::{accepted, cases, Case, Random};
+use crate::{accepted, cases, Case};
 use reference::{Call, Routine};
 
-/// What is done with a call: it is told the name of its test, its number there, and what makes it out of the numbers of
-/// [`Random::of`] these two.
-pub type Each<'e> = &'e mut dyn FnMut(&str, u64, &dyn Fn(&mut Random) -> Case);
+/// What is done with a call.
+pub type Each<'e> = crate::Each<'e, Case>;
 
 /// The calls of one test for a routine.
 pub type Calls = fn(Routine, Each);

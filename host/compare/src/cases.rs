@@ -105,7 +105,7 @@ fn scalar(random: &mut Random) -> f64 {
 }
 
 /// A letter, in upper or lower case.
-fn letter(random: &mut Random, letters: &[char]) -> i32 {
+pub(crate) fn letter(random: &mut Random, letters: &[char]) -> i32 {
     let letter = random.pick(letters);
     if random.once_in(2) {
         letter as i32

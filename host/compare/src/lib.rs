@@ -1,5 +1,5 @@
-//! Compares two implementations of the routines, of GEMM of many items, or of the runner of call sheets, bit for bit on
-//! made-up calls.
+//! Compares two implementations of the routines, of GEMM of many items, of integer solutions, or of the runner of call
+//! sheets, bit for bit on made-up calls.
 //!
 //! A [`Case`] is a call with two sets of arrays, one for each implementation. They agree where the call reads and hold
 //! different fillers (NaN, infinities, noise) where it does not: padding, the other triangle, a unit diagonal, the old
@@ -10,6 +10,7 @@
 
 pub mod calls;
 mod cases;
+pub mod isolve;
 pub mod many;
 mod random;
 mod runs;
@@ -17,12 +18,13 @@ mod saved;
 mod sheets;
 
 pub use cases::{accepted, Case};
-pub use random::{cases, seed, Random};
+pub use random::{cases, seed, some_case, two_of, Each, Random};
 pub use runs::{compare_runs, differ, library_run, Runner};
 pub use saved::Saved;
 pub use sheets::{long, of_call, sheet, solves, SheetCase, UNANSWERED};
 
 use reference::{Call, Done, Routine};
+use std::fmt::Debug;
 
 /// An implementation: arguments, A, B and the output, which is C, or B for TRMM and TRSM.
 pub type Implementation<'f> = &'f dyn Fn(&Call, &[f64], &[f64], &mut [f64]) -> Done;
@@ -103,16 +105,18 @@ pub fn compare(case: &Case, tested: Implementation, expected: Implementation) ->
     Ok(done)
 }
 
+/// Panics with what is needed to make case number `index` of a test again.
+fn failed(difference: &str, test: &str, index: u64, call: &dyn Debug, lengths: &[usize]) -> ! {
+    let seed = seed();
+    panic!("{difference}\nseed {seed} (THAMRUNLEK_SEED), test {test}, case {index}\n{call:?}\nlengths {lengths:?}")
+}
+
 /// Compares the library with the reference on case number `index` of a test, made by `make` from a generator of its
 /// own. On a difference it panics with what is needed to make the case again.
 pub fn hold(test: &str, index: u64, make: impl FnOnce(&mut Random) -> Case) -> Done {
     let case = make(&mut Random::of(test, index));
     compare(&case, &library, &reference::direct).unwrap_or_else(|difference| {
-        let lengths = (case.a[0].len(), case.b[0].len(), case.out[0].len());
-        panic!(
-            "{difference}\nseed {} (THAMRUNLEK_SEED), test {test}, case {index}\n{:?}\nlengths of A, B and output {lengths:?}",
-            seed(),
-            case.call
-        )
+        let lengths = [&case.a, &case.b, &case.out].map(|pair| pair[0].len());
+        failed(&difference, test, index, &case.call, &lengths)
     })
 }

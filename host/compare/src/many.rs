@@ -5,7 +5,7 @@ mod cases;
 
 pub use cases::{accepted, spoiled, Argument, Case, ARGUMENTS};
 
-use crate::{as_expected, seed, writes, Random};
+use crate::{as_expected, failed, writes, Random};
 use reference::{Call, Many, ManyDone};
 
 /// An implementation: arguments, A, the B and the C of all items, and the pack area.
@@ -54,10 +54,6 @@ pub fn hold(test: &str, index: u64, make: impl FnOnce(&mut Random) -> Case) -> M
     let case = make(&mut Random::of(test, index));
     compare(&case, &library, &reference::many).unwrap_or_else(|difference| {
         let lengths = [&case.a, &case.b, &case.c, &case.pack].map(|pair| pair[0].len());
-        panic!(
-            "{difference}\nseed {} (THAMRUNLEK_SEED), test {test}, case {index}\n{:?}\nlengths {lengths:?}",
-            seed(),
-            case.many
-        )
+        failed(&difference, test, index, &case.many, &lengths)
     })
 }

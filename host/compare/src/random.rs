@@ -1,4 +1,4 @@
-//! A reproducible source of made-up numbers.
+//! A reproducible source of made-up numbers, and of the cases that are made of them.
 
 use std::{env, sync::OnceLock};
 
@@ -62,4 +62,24 @@ impl Random {
         let exponent = (self.from(low, high) + 1023) as u64;
         f64::from_bits((self.bits() & 0x800f_ffff_ffff_ffff) | (exponent << 52))
     }
+}
+
+/// What is done with a case: it is told the name of its test, its number there, and what makes it out of the numbers of
+/// [`Random::of`] these two.
+pub type Each<'e, Case> = &'e mut dyn FnMut(&str, u64, &dyn Fn(&mut Random) -> Case);
+
+/// One of the cases is such. None is made after it.
+pub fn some_case<Case>(tests: &[fn(Each<Case>)], is: impl Fn(&Case) -> bool) -> bool {
+    let mut found = false;
+    for test in tests {
+        test(&mut |test, index, make| found = found || is(&make(&mut Random::of(test, index))));
+    }
+    found
+}
+
+/// Two of the items, in their order, by a number: every two come up, and every item with itself.
+pub fn two_of<T: Copy>(items: &[T], number: u64) -> [T; 2] {
+    let count = items.len();
+    let (x, y) = (number as usize / count % count, number as usize % count);
+    [items[x.min(y)], items[x.max(y)]]
 }

@@ -3,18 +3,13 @@
 
 use compare::many::calls::{self, Calls};
 use compare::many::{compare, Implementation};
-use compare::Random;
+use compare::some_case;
 use reference::{check_many, direct, many, needed, Call, Many, ManyDone};
 
 /// One of the calls of the comparison tells the implementation apart from the reference.
 fn told_apart(wrong: Implementation) -> bool {
-    let mut apart = false;
-    for calls in [calls::options_and_sizes, calls::bad_arguments, calls::ends_of_the_range] as [Calls; 3] {
-        calls(&mut |test, index, make| {
-            apart = apart || compare(&make(&mut Random::of(test, index)), wrong, &many).is_err();
-        });
-    }
-    apart
+    let tests: [Calls; 3] = [calls::options_and_sizes, calls::bad_arguments, calls::ends_of_the_range];
+    some_case(&tests, |case| compare(case, wrong, &many).is_err())
 }
 
 #[test]

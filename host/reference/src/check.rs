@@ -10,7 +10,7 @@ fn bad_side(code: i32) -> bool {
     !(is(code, 'L') || is(code, 'R'))
 }
 
-fn bad_uplo(code: i32) -> bool {
+pub(crate) fn bad_uplo(code: i32) -> bool {
     !(is(code, 'L') || is(code, 'U'))
 }
 

@@ -1,4 +1,5 @@
-//! The six Level 3 routines as plain loops, GEMM of many items, and call sheets as a plain machine.
+//! The six Level 3 routines as plain loops, GEMM of many items, the integer solution of triangular systems, and call
+//! sheets as a plain machine.
 //!
 //! Everything here is written by hand from documents 01 and 02, slow and obvious on purpose: it is what the tests hold
 //! the library against. It shares no code with the library or its wrapper.
@@ -9,11 +10,13 @@
 #![deny(missing_docs)]
 
 mod check;
+mod isolve;
 mod loops;
 pub mod machine;
 mod many;
 
 pub use check::check;
+pub use isolve::{check_isolve, isolve};
 pub use loops::zero;
 pub use many::{check_many, many, Many, ManyDone};
 

@@ -1,8 +1,8 @@
-//! Document 01's table, row by row, its and document 02's examples of the numbers handed back, the zeros of solves, and
-//! GEMM of many items.
+//! Document 01's table, row by row, its and document 02's examples of the numbers handed back, the zeros of solves, GEMM
+//! of many items, and integer solutions.
 
 use crate::machine::{run, trailer, End, Lent};
-use crate::{direct, many, Call, Done, Many, ManyDone, Routine};
+use crate::{direct, isolve, many, Call, Done, Many, ManyDone, Routine};
 
 const P: f64 = 9007199254740992.0;
 const LETTER_U: i32 = 'U' as i32;
@@ -379,4 +379,66 @@ fn numbers_of_many_items() {
     let thousand = Many { items: 1000, b_stride: 0, ..given };
     assert_eq!(number_of_many(thousand, [5, 2, 2999, 4]), 0);
     assert_eq!(number_of_many(thousand, [5, 2, 2998, 4]), 12);
+}
+
+/// What a system gives, and its X, which keeps its content unless there is a solution.
+fn solved(letter: char, a: &[i16], b: &[i16]) -> (i32, Vec<i16>) {
+    let mut x = vec![77; b.len()];
+    let number = isolve(letter as i32, b.len() as i32, a, b, &mut x);
+    assert!(number == 0 || x.iter().all(|&x| x == 77));
+    (number, x)
+}
+
+#[test]
+fn integer_solutions() {
+    assert_eq!(solved('L', &[3, 5, 9, 4], &[6, -2]), (0, vec![2, -3]));
+    assert_eq!(solved('u', &[4, 9, 5, 3], &[-2, 6]), (0, vec![-3, 2]));
+    assert_eq!(solved('U', &[-1, 8, 8, 2, -1, 8, 0, 3, -1], &[4, 9, -2]), (0, vec![-10, -3, 2]));
+    assert_eq!(solved('l', &[1], &[-32768]), (0, vec![-32768]));
+    assert_eq!(solved('L', &[-1], &[32767]), (0, vec![-32767]));
+    assert_eq!(solved('L', &[-32768], &[-32768]), (0, vec![1]));
+    assert_eq!(solved('L', &[-32768], &[0]), (0, vec![0]));
+    assert_eq!(solved('L', &[1, -32768, 9, -32768], &[-32767, 0]), (0, vec![-32767, 32767]));
+    assert_eq!(solved('U', &[32767, 9, 32767, 1], &[-1, -32768]), (-1, vec![77, 77]));
+}
+
+#[test]
+fn no_integer_solution() {
+    let none = |letter, a: &[i16], b: &[i16]| assert_eq!(solved(letter, a, b).0, -1, "{letter} {a:?} {b:?}");
+    for (d, b) in [(2, 1), (2, -1), (-2, 1), (-2, -1), (3, 32767), (-32768, 1), (32767, -32768)] {
+        none('L', &[d], &[b]);
+        none('U', &[d], &[b]);
+    }
+    none('L', &[-1], &[-32768]);
+    none('L', &[1, -1, 9, 1], &[1, 32767]);
+    none('L', &[1, 1, 9, 1], &[1, -32768]);
+    none('U', &[1, 9, -1, 1], &[32767, 1]);
+    none('L', &[1, -32768, 9, -32768], &[-32768, 0]);
+    none('L', &[2, 0, 9, 1], &[1, 0]);
+    none('L', &[3, 5, 0, 4], &[6, -1]);
+}
+
+/// The number of a system of ones on lists of these lengths.
+fn number_of_ones(code: i32, n: i32, [a, b, x]: [usize; 3]) -> i32 {
+    isolve(code, n, &vec![1; a], &vec![1; b], &mut vec![1; x])
+}
+
+#[test]
+fn numbers_of_integer_solutions() {
+    for code in ['L', 'l', 'U', 'u'].map(|letter| letter as i32) {
+        assert_eq!(number_of_ones(code, 1, [1, 1, 1]), 0);
+        assert_eq!(number_of_ones(code, 64, [4096, 64, 64]), 0);
+        assert_eq!(number_of_ones(code, 0, [0, 0, 0]), 39);
+        assert_eq!(number_of_ones(code, 65, [4225, 65, 65]), 39);
+        assert_eq!(number_of_ones(code, -1, [1, 1, 1]), 39);
+        assert_eq!(number_of_ones(code + 256, 1, [0, 0, 0]), 39);
+        for lengths in [[3, 2, 2], [5, 2, 2], [4, 1, 2], [4, 3, 2], [4, 2, 1], [4, 2, 3], [2, 2, 2], [0, 0, 0]] {
+            assert_eq!(number_of_ones(code, 2, lengths), 40);
+        }
+        let of_two = |a: &[i16], b: &[i16]| isolve(code, 2, a, b, &mut [0; 2]);
+        for zero in [[0, 1, 1, 1], [1, 1, 1, 0], [0, 1, 1, 2], [2, 1, 1, 0], [0; 4]] {
+            assert_eq!([of_two(&zero, &[0; 2]), of_two(&zero, &[1; 2]), of_two(&zero, &[1; 3])], [41, 41, 40]);
+        }
+        assert_eq!(of_two(&[1, 0, 0, 1], &[1; 2]), 0);
+    }
 }

@@ -11,6 +11,8 @@
 //! element is not read), as the old element if β is one, else as β times it; then each term adds (α·v)·u, u from the
 //! left factor and v from the right, in ascending order and without skipping any.
 //!
+//! Beside them, [`isolve`] solves triangular systems over whole numbers, with entries of 16 bits.
+//!
 //! # Example
 //!
 //! ```
@@ -31,11 +33,13 @@
 #![deny(missing_docs, unsafe_code)]
 #![allow(clippy::too_many_arguments)]
 
+mod isolve;
 mod options;
 pub mod raw;
 mod refusal;
 mod sheet;
 
+pub use isolve::{isolve, IsolveRefusal, Solution};
 pub use options::{Blocks, Diagonal, Side, Transpose, Triangle};
 pub use refusal::{Refusal, Routine};
 pub use sheet::{run, Cursor, Ran, RunRefusal};

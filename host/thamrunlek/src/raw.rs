@@ -3,7 +3,7 @@
 //! A routine takes any numbers at all and gives 0, or the number of the first bad argument; refused, it writes nothing.
 //! [`Refusal`](crate::Refusal) says what a number means. Codes are character numbers, as `'N' as i32`. A run of a call
 //! sheet takes any words, too. Its number is in its [`RunEnd`], that of a solve in its [`SolveEnd`], and that of GEMM
-//! of many items in its [`ManyEnd`].
+//! of many items in its [`ManyEnd`]. An integer solution gives -1 too, if there is none.
 //!
 //! The library reads and writes nothing outside the slices; that is part of what is proved of it. It keeps no
 //! pointer, so these functions are safe on any arguments.
@@ -44,6 +44,9 @@ extern "C" {
         side: i32, uplo: i32, transa: i32, diag: i32, m: i32, n: i32, alpha: f64, a: *const f64, a_len: usize,
         lda: i32, b: *mut f64, b_len: usize, ldb: i32, w: i32, r: i32,
     ) -> SolveEnd;
+    pub fn tl_isolve(
+        uplo: i32, n: i32, a: *const i16, a_len: usize, b: *const i16, b_len: usize, x: *mut i16, x_len: usize,
+    ) -> i32;
     pub fn tl_run(
         sheet: *const i32, sheet_len: usize, scalars: *const f64, scalars_len: usize, x: *mut f64, x_len: usize,
         y: *mut f64, y_len: usize, z: *mut f64, z_len: usize, answers: *mut i32, answers_len: usize, p: i32, s: i32,
@@ -157,6 +160,15 @@ pub fn trsm(
     let (a, a_len) = (a.as_ptr(), a.len());
     let (b, b_len) = (b.as_mut_ptr(), b.len());
     unsafe { tl_dtrsm(side, uplo, transa, diag, m, n, alpha, a, a_len, lda, b, b_len, ldb, w, r) }
+}
+
+/// [`crate::isolve`] on a raw code: 0 if X is written, -1 if there is none, or the number of a refusal.
+#[inline]
+pub fn isolve(uplo: i32, n: i32, a: &[i16], b: &[i16], x: &mut [i16]) -> i32 {
+    let (a, a_len) = (a.as_ptr(), a.len());
+    let (b, b_len) = (b.as_ptr(), b.len());
+    let (x, x_len) = (x.as_mut_ptr(), x.len());
+    unsafe { tl_isolve(uplo, n, a, a_len, b, b_len, x, x_len) }
 }
 
 /// What a run of a call sheet hands back.

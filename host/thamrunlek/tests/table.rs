@@ -1,11 +1,12 @@
 //! The rows of document 01's table, through the safe functions, an example of document 02, through the C function, what
-//! solves and runs report, and GEMM of many items.
+//! solves and runs report, GEMM of many items, and integer solutions.
 
 use thamrunlek::Diagonal::{NonUnit, Unit};
 use thamrunlek::Side::{Left, Right};
 use thamrunlek::Transpose::{No, Yes};
 use thamrunlek::Triangle::{Lower, Upper};
-use thamrunlek::{gemm, gemm_many, raw, run, symm, syr2k, syrk, trmm, trsm, Blocks, Cursor, Refusal, Solved};
+use thamrunlek::{gemm, gemm_many, isolve, raw, run, symm, syr2k, syrk, trmm, trsm};
+use thamrunlek::{Blocks, Cursor, Refusal, Solution, Solved};
 
 const P: f64 = 9007199254740992.0;
 
@@ -181,4 +182,48 @@ fn no_pack_area_where_none_is_needed() {
     let ends = [call(3, 0), call(3, 2), call(2, 2)].map(|end| (end.number, end.copied));
     assert_eq!(ends, [(0, 0), (44, 0), (0, 0)]);
     assert_eq!(c, [4., 6., 6., 9.]);
+}
+
+/// Document 02, K8: X is given, or it is said that there is none, and then the list keeps its content.
+#[test]
+fn integer_solutions() {
+    let solved = |uplo, a: &[i16], b: &[i16]| {
+        let mut x = [7, 7];
+        isolve(uplo, 2, a, b, &mut x).map(|solution| (solution, x))
+    };
+    let (found, none) = (|x| Ok((Solution::Found, x)), Ok((Solution::None, [7, 7])));
+    assert_eq!(solved(Lower, &[3, 5, 9, 4], &[6, -2]), found([2, -3]));
+    assert_eq!(solved(Upper, &[4, 9, 5, 3], &[-2, 6]), found([-3, 2]));
+    assert_eq!(solved(Lower, &[1, -32768, 0, -32768], &[-32767, 0]), found([-32767, 32767]));
+    assert_eq!(solved(Lower, &[1, -32768, 0, -32768], &[-32768, 0]), none);
+    assert_eq!(solved(Lower, &[3, 5, 9, 4], &[6, -1]), none);
+    assert_eq!(solved(Upper, &[4, 9, 5, 3], &[-2, -7]), none);
+}
+
+#[test]
+fn refused_integer_solutions() {
+    let refusal = |n, a: &[i16], b: &[i16]| {
+        let mut x = [7, 7];
+        let refusal = isolve(Lower, n, a, b, &mut x).unwrap_err();
+        assert_eq!(x, [7, 7]);
+        refusal
+    };
+    let refusals = [refusal(65, &[0; 4], &[1]), refusal(2, &[0; 4], &[1]), refusal(2, &[2, 1, 1, 0], &[1, 1])];
+    assert_eq!(refusals.map(|refusal| refusal.number()), [39, 40, 41]);
+    let texts = [
+        "the order is not 1 to 64",
+        "A has not exactly n * n elements, or B or X not exactly n",
+        "the diagonal of A has a zero",
+    ];
+    assert_eq!(refusals.map(|refusal| refusal.to_string()), texts);
+}
+
+/// The C function takes a code in either case of letter, and no other one.
+#[test]
+fn codes_of_integer_solutions() {
+    let (one, mut x) = ([5], [7]);
+    let mut number = |code| unsafe { raw::tl_isolve(code, 1, one.as_ptr(), 1, one.as_ptr(), 1, x.as_mut_ptr(), 1) };
+    assert_eq!(['L', 'l', 'U', 'u'].map(|letter| number(letter as i32)), [0; 4]);
+    assert_eq!([75, 77, 84, 86, 'N' as i32, 256 + 'L' as i32, -1].map(number), [39; 7]);
+    assert_eq!(x, [1]);
 }

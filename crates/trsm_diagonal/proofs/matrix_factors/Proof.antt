@@ -3,8 +3,7 @@
 use native.Mathlib.Omega.{arith}
 use mathlib.Core.Path.{_∙_}
 use Rattle.packing.specs.Factor.{turn}
-use Rattle.packing.proofs.FactorLaws.{turn-below}
-use Rattle.trsm_diagonal.proofs.OrderLaws.{turn-turn}
+use Rattle.packing.proofs.FactorLaws.{turn-below, turn-turn}
 use Rattle.trsm_diagonal.proofs.FactorLaws.{minus-one, matrix-kept, before-is-beside, entries-scaled}
 use borrow.Author.Needs.{needs}
 use Rattle.trsm_diagonal.proofs.matrix_factors.Statement.{statement}

@@ -1,7 +1,8 @@
-//! Makes all calls and sheets of the comparison with the library alone and prints one line: the build in use, how many
-//! results there were, and their digest. The digest is the same for every build on every machine.
+//! Makes all calls and sheets of the comparison, and its systems over whole numbers, with the library alone and prints
+//! one line: the build in use, how many results there were, and their digest. The digest is the same for every build on
+//! every machine.
 
-use compare::{calls, compare_runs, library, library_run, many, sheet, Case, Random};
+use compare::{calls, compare_runs, isolve, library, library_run, many, sheet, Case, Random};
 use reference::machine::{End, Lent};
 use reference::{Done, ManyDone, ROUTINES};
 use std::cell::RefCell;
@@ -43,6 +44,14 @@ fn main() {
                 make(&mut Random::of(test, index));
             let ManyDone { number, copied } = many::library(&many, &a, &b, &mut c, &mut pack);
             digest.borrow_mut().add_result(&[number, copied as i32], &[&c, &pack]);
+        });
+    }
+    for calls in isolve::calls::ALL {
+        calls(&mut |test, index, make| {
+            let isolve::Case { uplo, n, a: [a, _], b, x: [mut x, _] } = make(&mut Random::of(test, index));
+            let number = isolve::library(uplo, n, &a, &b, &mut x);
+            let numbers: Vec<i32> = x.into_iter().map(i32::from).chain([number]).collect();
+            digest.borrow_mut().add_result(&numbers, &[]);
         });
     }
     let recorded = |words: &[i32], scalars: &[f64], lent: &mut Lent, p: i32, s: i32, budget: u32| {

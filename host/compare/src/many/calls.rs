@@ -2,11 +2,10 @@
 
 use super::cases::extreme;
 use super::{accepted, spoiled, Argument, Case, ARGUMENTS};
-use crate::{cases, Random};
+use crate::{cases, two_of};
 
-/// What is done with a call: it is told the name of its test, its number there, and what makes it out of the numbers of
-/// [`Random::of`] these two.
-pub type Each<'e> = &'e mut dyn FnMut(&str, u64, &dyn Fn(&mut Random) -> Case);
+/// What is done with a call.
+pub type Each<'e> = crate::Each<'e, Case>;
 
 /// The calls of one test.
 pub type Calls = fn(Each);
@@ -84,8 +83,7 @@ pub fn a_thousand_items(each: Each) {
 /// The arguments that are bad in a call of [`bad_arguments`], in the order of the tests, with their numbers. The two
 /// may be the same.
 pub fn which_are_bad(index: u64) -> [(i32, Argument); 2] {
-    let (x, y) = (index as usize / 16 % 16, index as usize % 16);
-    [ARGUMENTS[x.min(y)], ARGUMENTS[x.max(y)]]
+    two_of(&ARGUMENTS, index)
 }
 
 /// Every argument bad alone, twenty times, and every two of them, forty times.
