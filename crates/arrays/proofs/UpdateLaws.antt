@@ -105,7 +105,11 @@ module _ {A : Type 0} where
   pub below-none : (f : ℕ → A → A) (l : List A) → l ≡ update (below 0 f) l
   below-none f l = below-keep 0 f l (λ p h x. let z : ⊥ = omega arith in absurd z)
 
-  -- a turn of a loop that updates from the front: l is the array as the loop began, m as it is now
+  -- a loop that updates from the front: l is the array as the loop began, m as it is now; first an element that it has not come to, and then a turn of it
+  pub below-yet : (d : A) (f : ℕ → A → A) (l m : List A) (i : ℕ) → m ≡ update (below i f) l → i < length l → getD m i d ≡ getD l i d
+  below-yet d f l m i e b =
+      ap (λ (k : List A). getD k i d) e ∙ at-update (below i f) l i d b ∙ below-out i f i (getD l i d) (omega arith)
+
   pub below-more : (d : A) (f : ℕ → A → A) (l m : List A) (i : ℕ) → m ≡ update (below i f) l → i < length l
       → set m i (f i (getD m i d)) ≡ update (below (i + 1) f) l
   below-more d f l m i e b =
@@ -127,7 +131,7 @@ module _ {A : Type 0} where
       here : getD (set m i w) i d ≡ below (i + 1) f i (getD l i d)
       here =
           getD-set-same m i w d (omega (arith, ml))
-          ∙ ap (f i) (old i b ∙ below-out i f i (getD l i d) (omega arith))
+          ∙ ap (f i) (below-yet d f l m i e b)
           ∙ sym (below-in (i + 1) f i (getD l i d) (omega arith))
 
       before : (p : ℕ) → p < length l → p < i → getD (set m i w) p d ≡ below (i + 1) f p (getD l p d)

@@ -12,7 +12,7 @@ use lib.Ieee.{Float, nan}
 use borrow.Rule.Slice.PartMut.{putMid}
 use Rattle.arrays.specs.Update.{Mask, update, below, entries, only, box, region}
 use Rattle.arrays.specs.Fold.{fold}
-use Rattle.arrays.proofs.UpdateLaws.{at-update, below-none, below-more, below-in, below-out, below-same, lt-or-ge}
+use Rattle.arrays.proofs.UpdateLaws.{below-none, below-yet, below-more, below-in, below-out, below-same, lt-or-ge}
 use Rattle.arrays.proofs.PartLaws.{column-room, part-then, tail-at}
 use Rattle.arrays.proofs.EntryLaws.{entries-same, entries-keep, only-same, only-keep}
 use Rattle.arrays.proofs.RegionLaws.{region-same, one-column}
@@ -67,7 +67,7 @@ strided-more alpha a ra ca b rb down k q i x e v el ex ee =
 pub below-set : (F : ℕ → Float → Float) (l m : List Float) (i : ℕ) (v : Float) → m ≡ update (below i F) l → i < length l → v ≡ F i (at l i)
     → set m i v ≡ update (below (i + 1) F) l
 below-set F l m i v em h ev =
-    ap (λ (x : Float). set m i x) (ev ∙ ap (F i) (sym (ap (λ (k : List Float). at k i) em ∙ at-update _ l i nan h ∙ below-out i F i _ (omega arith))))
+    ap (λ (x : Float). set m i x) (ev ∙ ap (F i) (sym (below-yet nan F l m i em h)))
     ∙ below-more nan F l m i em h
 
 pub four-set : (F : ℕ → Float → Float) (l : List Float) (e f g h : Float) → 4 ≤ length l → e ≡ F 0 (at l 0) → f ≡ F 1 (at l 1) → g ≡ F 2 (at l 2)

@@ -1,4 +1,4 @@
--- Laws of the whole numbers: their sizes, sums, products, quotients and remainders, and the range of a 16-bit word.
+-- Laws of the whole numbers: their sizes, sums, products, quotients and remainders.
 -- Assumes nothing.
 use mathlib.Core.Path.{_≡_, refl, sym, ap}
 use mathlib.Core.Bool.{Bool, true, false, cond}
@@ -6,9 +6,9 @@ use Prim.Native.Nat.{ℕ, zero, suc, _+_, _*_, _/_, _%_, _≤_, _<_}
 use native.Mathlib.Nat.{eq-of-mul-eq-mul-left, div-add-mod, div-le-self, mul-mod-right, suc-inj, suc-ne-zero, zero-lt-suc}
 use native.Mathlib.Numerals.{unary-clauses}
 use native.Mathlib.Omega.{arith}
-use lib.Dec.{ltb, leb→le, le→leb}
+use lib.Dec.{ltb}
 use lib.IntN.{ℤ, pos, negsuc, negℤ, natAbs, _+ℤ_, _-ℤ_, _*ℤ_, negℤ-negℤ, +ℤ-assoc, +ℤ-comm, +ℤ-negℤ-cancel, -ℤ-+ℤ-cancel, *ℤ-zero, *ℤ-negsuc, pos-ne-negsuc}
-use lib.Signed.{mag, quotZ, remZ, _≤ℤ_}
+use lib.Signed.{mag, quotZ, remZ}
 
 -- ---- sizes
 
@@ -100,13 +100,3 @@ quotient-abs (pos a) (pos b) = div-le-self a b
 quotient-abs (pos a) (negsuc b) = rw abs-neg (div-le-self a (suc b))
 quotient-abs (negsuc a) (pos b) = rw abs-neg (div-le-self (suc a) b)
 quotient-abs (negsuc a) (negsuc b) = div-le-self (suc a) (suc b)
-
--- ---- the range of a 16-bit word
-
-pub word-mag : (z : ℤ) → negsuc 32767 ≤ℤ z → z ≤ℤ pos 32767 → mag z < 32768
-word-mag (pos n) _ h = omega (arith, leb→le)
-word-mag (negsuc n) h _ = omega (arith, leb→le)
-
-pub mag-word : (z : ℤ) → mag z < 32768 → (negsuc 32767 ≤ℤ z) × (z ≤ℤ pos 32767)
-mag-word (pos n) h = omega (arith, le→leb)
-mag-word (negsuc n) h = omega (arith, le→leb)

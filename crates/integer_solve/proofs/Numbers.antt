@@ -3,7 +3,7 @@
 use mathlib.Core.Path.{_≡_, refl}
 use mathlib.Core.Bool.{Bool, true, false, not, _||_}
 use mathlib.Core.List.{List}
-use Prim.Native.Nat.{ℕ, _*_, _≤_, _<_}
+use Prim.Native.Nat.{ℕ, _*_, _≤_}
 use native.Mathlib.Omega.{arith}
 use lib.Dec.{ltb, eqb}
 use lib.IntN.{ℤ}
@@ -14,9 +14,9 @@ use Rattle.arrays.proofs.Tests.{or-left, or-right}
 use Rattle.definitions.specs.Check.{nat, 'L', 'U', is}
 use Rattle.integer_solve.specs.Equations.{badOrder, badLength, zeroDiagonal, refusal}
 
-pub order-within : (n : ℤ) → badOrder n ≡ false → (0 < nat n) × (nat n ≤ 64)
+pub order-within : (n : ℤ) → badOrder n ≡ false → nat n ≤ 64
 unfolding badOrder
-order-within n h = (omega (arith, ltb-false (nat n) 1 (or-left (ltb (nat n) 1) (ltb 64 (nat n)) h)), ltb-false 64 (nat n) (or-right (ltb (nat n) 1) (ltb 64 (nat n)) h))
+order-within n h = ltb-false 64 (nat n) (or-right (ltb (nat n) 1) (ltb 64 (nat n)) h)
 
 pub lengths-fit : (n a b x : ℕ) → badLength n a b x ≡ false → (a ≡ n * n) × (b ≡ n) × (x ≡ n)
 unfolding badLength

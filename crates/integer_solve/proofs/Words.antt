@@ -1,32 +1,33 @@
--- Signed words: numbers that go through the bits of a word, and the size of a remainder.
+-- Signed words: their range, numbers that go through their bits, the sizes of terms and remainders, and loops over them.
 -- Assumes nothing.
 use mathlib.Core.Path.{_≡_, refl, sym, ap, subst, _∙_}
 use mathlib.Core.Logic.{⊎-elim}
-use mathlib.Core.Bool.{Bool, true, false, _||_}
+use mathlib.Core.Bool.{_||_, or-false}
 use mathlib.Core.List.{List}
 use Prim.Native.Nat.{ℕ, _+_, _≤_, _<_}
 use native.Mathlib.Nat.{mul-le-mul}
 use native.Mathlib.Omega.{arith}
-use lib.Dec.{ltb}
+use lib.Dec.{ltb, leb→le, le→leb}
 use lib.IntN.{ℤ, pos, negsuc, natAbs, _-ℤ_, _*ℤ_}
 use lib.ListN.{length, getD, set}
 use lib.Seq.{getD-set-same, getD-set-other}
-use lib.Signed.{mag, ltZ, natAbs-le}
+use lib.Signed.{mag, ltZ, leZ-yes, natAbs-le}
 use borrow.Author.Tests.{le-leb, lt-leb}
 use mir.Syntax.{Width, w16, w64}
 use mir.Val.{SFits, toZ, ofZ}
 use mir.ValLaws.{toZ-ofZ}
-use Rattle.arrays.specs.Update.{update, below}
-use Rattle.arrays.proofs.UpdateLaws.{lt-or-ge, same-or-not, at-update, below-out}
+use Rattle.arrays.proofs.UpdateLaws.{lt-or-ge, same-or-not}
 use Rattle.integer_solve.specs.Equations.{Word}
-use Rattle.integer_solve.specs.Elimination.{Words, term, Grown, lessTerm}
-use Rattle.integer_solve.proofs.Integers.{abs-less, abs-product, word-mag, mag-word}
+use Rattle.integer_solve.specs.Elimination.{term, Grown, lessTerm}
+use Rattle.integer_solve.proofs.Integers.{abs-less, abs-product}
 
 pub word-fits : {z : ℤ} → Word z → mag z < 32768
-word-fits {z} h = word-mag z (h .least) (h .most)
+word-fits {z = pos n} h = omega (arith, leb→le n 32767 (h .most .le))
+word-fits {z = negsuc n} h = omega (arith, leb→le n 32767 (h .least .le))
 
 pub fits-word : {z : ℤ} → mag z < 32768 → Word z
-fits-word {z} h = record { least = mag-word z h .0; most = mag-word z h .1 }
+fits-word {z = pos n} h = record { least = leZ-yes tt; most = leZ-yes (le→leb n 32767 (omega arith)) }
+fits-word {z = negsuc n} h = record { least = leZ-yes (le→leb n 32767 (omega arith)); most = leZ-yes tt }
 
 pub fits-16 : {z : ℤ} → mag z < 32768 → SFits w16 z
 fits-16 h = record { sfits = h }
@@ -58,25 +59,13 @@ zero-bits w z f h = sym (toZ-ofZ w z f) ∙ ap (toZ w) h
 pub range : (z : ℤ) → (ltZ z (negsuc 32767) || ltZ (pos 32767) z) ≡ ltb 32767 (mag z)
 range (pos n) = refl
 range (negsuc n) = or-false (ltb 32767 n)
-  where
-    or-false : (t : Bool) → (t || false) ≡ t
-    or-false true = refl
-    or-false false = refl
 
 -- ---- loops over words
 
--- one word more
-pub words-more : (l : List ℤ) (i : ℕ) → Words i l → mag (getD l i (pos 0)) < 32768 → Words (i + 1) l
-words-more l i words h p b =
-    ⊎-elim
-    (λ q. words p q)
-    (λ q. let e : i ≡ p = omega arith in subst (λ (k : ℕ). Word (getD l k (pos 0))) e (fits-word h))
-    (lt-or-ge p i)
-
--- an element that a loop from the front has not come to
-pub not-yet : (f : ℕ → ℤ → ℤ) (l m : List ℤ) (i : ℕ) → m ≡ update (below i f) l → i < length l → getD m i (pos 0) ≡ getD l i (pos 0)
-not-yet f l m i e b =
-    ap (λ (k : List ℤ). getD k i (pos 0)) e ∙ at-update (below i f) l i (pos 0) b ∙ below-out i f i (getD l i (pos 0)) (omega arith)
+-- what holds of the indices below i, and of i
+pub one-more : (P : ℕ → Type 0) (i : ℕ) → ((p : ℕ) → p < i → P p) → P i → (p : ℕ) → p < i + 1 → P p
+one-more P i before here p b =
+    ⊎-elim (λ q. before p q) (λ q. let e : i ≡ p = omega arith in subst P e here) (lt-or-ge p i)
 
 -- an element that grows by no more than a term
 pub grown-set : (l m : List ℤ) (i : ℕ) (w : ℤ) → Grown l m → i < length m → natAbs w ≤ natAbs (getD l i (pos 0)) + term → Grown l (set m i w)

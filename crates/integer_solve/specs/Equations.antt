@@ -47,7 +47,7 @@ badOrder n = ltb (nat n) 1 || ltb 64 (nat n)
 unfoldable pub badLength : ℕ → ℕ → ℕ → ℕ → Bool
 badLength n a b x = not (eqb a (n * n)) || not (eqb b n) || not (eqb x n)
 
--- "a zero diagonal"
+-- "a zero diagonal": the lowest index of a zero on it is one below n.
 unfoldable pub zeroDiagonal : ℕ → List ℤ → Bool
 zeroDiagonal n a = ltb (lowest (λ i. eqb (natAbs (stored (pos 0) a n i i)) 0) n) n
 

@@ -1,9 +1,9 @@
 -- `divide`: a quotient toward zero without a remainder is the one that is asked for, and with a remainder there is none.
 -- Assumes nothing.
 use mathlib.Core.Path.{_≡_, sym, ap, _∙_}
-use mathlib.Core.Logic.{⊎-elim}
 use mathlib.Core.Bool.{Bool, _||_}
 use Prim.Native.Nat.{_<_}
+use native.Mathlib.Nat.{pos-of-ne-zero}
 use native.Mathlib.Omega.{arith}
 use lib.IntN.{ℤ, pos, negsuc}
 use lib.Signed.{mag, ltZ, quotZ, remZ, mag-rem}
@@ -11,7 +11,6 @@ use borrow.Author.Tests.{ltb-true, ltb-false}
 use mir.Syntax.{w16, w64}
 use mir.Val.{SFits, toZ, ofZ}
 use mir.ValLaws.{toZ-ofZ, sfits-le}
-use Rattle.arrays.proofs.UpdateLaws.{lt-or-ge}
 use Rattle.integer_solve.proofs.Integers.{mag-abs, quotient-abs, quotient-whole, whole-remainder, product-cancel}
 use Rattle.integer_solve.proofs.Words.{fits-64, word-fits, fits-word, same-word, same-64, zero-bits, range}
 use Rattle.integer_solve.proofs.divide.Statement.{statement}
@@ -21,7 +20,7 @@ cast-divisor : tie.Need-cast-divisor
 cast-divisor c = rw (same-word (c .args .d) (c .fits .d .sfits)) (fits-64 (c .fits .d .sfits))
 
 some-bits : (d : ℤ) → mag d < 32768 → (d ≡ pos 0 → ⊥) → 0 < ofZ w64 d
-some-bits d h some = ⊎-elim (λ k. k) (λ k. absurd (some (zero-bits w64 d (fits-64 h) (omega arith)))) (lt-or-ge 0 (ofZ w64 d))
+some-bits d h some = pos-of-ne-zero (λ e. some (zero-bits w64 d (fits-64 h) e))
 
 -- quotient and remainder are no larger than what is divided
 quotient-fits : (c : tie.Start) → SFits w64 (quotZ (c .args .s) (c .args .d))

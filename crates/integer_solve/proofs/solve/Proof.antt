@@ -1,15 +1,14 @@
 -- `solve` tests, eliminates, and writes X once all of it is known.
 -- Assumes nothing.
 use mathlib.Core.Path.{_≡_, refl, sym, subst, _∙_}
-use mathlib.Core.Logic.{⊎-elim}
 use mathlib.Core.Bool.{Bool, true, false}
 use Prim.Native.Nat.{ℕ, _*_, _≤_}
+use native.Mathlib.Nat.{pos-of-ne-zero}
 use native.Mathlib.Omega.{arith}
 use lib.ListN.{length}
 use mir.Syntax.{w32}
 use mir.Val.{toZ, ofZ}
 use Rattle.arrays.proofs.Tests.{or-left, if-true, if-false}
-use Rattle.arrays.proofs.UpdateLaws.{lt-or-ge}
 use Rattle.definitions.specs.Check.{nat, uploOf}
 use Rattle.definitions.specs.declared.Triangle.{Triangle}
 use Rattle.arguments.proofs.Signed.{same}
@@ -29,7 +28,7 @@ number c =
     (same (λ u. refusal u (toZ w32 (ofZ w32 (g .n))) (g .a .now) (length (g .b .now)) (length (g .x .now))) (g .uplo) (f .uplo .sfits) (c .refusal .ensures)))
 
 returns : tie.Need-returns
-returns c = (number (c .before), ⊎-elim (λ h. h) (λ h. absurd (c .if1 .taken (omega arith))) (lt-or-ge 0 (c .before .refusal .result)), refl)
+returns c = (number (c .before), pos-of-ne-zero (c .if1 .taken), refl)
 
 -- a call that passes the tests
 accepted : (c : tie.Else1) → let g = c .before .before .args in refusal (g .uplo) (g .n) (g .a .now) (length (g .b .now)) (length (g .x .now)) ≡ 0
@@ -41,7 +40,7 @@ fitting c =
     let g = c .before .before .args in
     let h = passed (g .uplo) (g .n) (g .a .now) (length (g .b .now)) (length (g .x .now)) (accepted c) in
     let l = lengths-fit (nat (g .n)) (length (g .a .now)) (length (g .b .now)) (length (g .x .now)) (h .1) in
-    (order-within (g .n) (or-left _ _ (h .0)) .1, l .0, l .1, l .2, h .2)
+    (order-within (g .n) (or-left _ _ (h .0)), l .0, l .1, l .2, h .2)
 
 eliminate-requires : tie.Need-eliminate-requires
 eliminate-requires c κs =

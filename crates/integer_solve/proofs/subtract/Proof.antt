@@ -9,9 +9,9 @@ use mir.Syntax.{w16, w64}
 use mir.Val.{toZ, ofZ}
 use mir.ValLaws.{toZ-ofZ}
 use Rattle.arrays.specs.Update.{update, below}
-use Rattle.arrays.proofs.UpdateLaws.{below-keep, below-more}
+use Rattle.arrays.proofs.UpdateLaws.{below-keep, below-yet, below-more}
 use Rattle.integer_solve.specs.Elimination.{term, Grown, lessTerm}
-use Rattle.integer_solve.proofs.Words.{same-word, not-yet, grown-set, term-before, term-from}
+use Rattle.integer_solve.proofs.Words.{same-word, grown-set, term-before, term-from}
 use Rattle.integer_solve.proofs.subtract.Statement.{statement}
 use Rattle.integer_solve.proofs.subtract.Tie as tie
 
@@ -27,7 +27,7 @@ loop-holds c =
 
 -- the remainder as the loop found it
 untouched : (c : tie.In-loop Inv-loop μ-loop) → getD (c .before .loop .s) (c .before .loop .i) (pos 0) ≡ getD (c .before .before .args .s .now) (c .before .loop .i) (pos 0)
-untouched c = not-yet _ _ _ _ (c .before .loop .inv .3) (omega arith)
+untouched c = below-yet (pos 0) _ _ _ _ (c .before .loop .inv .3) (omega arith)
 
 less-requires : tie.Need-less-requires Inv-loop μ-loop
 less-requires c κs =

@@ -7,8 +7,9 @@ use lib.IntN.{pos}
 use lib.ListN.{length, getD, set, length-set}
 use Rattle.arrays.specs.Update.{update, below}
 use Rattle.arrays.proofs.UpdateLaws.{below-none, below-more}
+use Rattle.integer_solve.specs.Equations.{Word}
 use Rattle.integer_solve.specs.Elimination.{Words}
-use Rattle.integer_solve.proofs.Words.{fits-64, same-word, same-64, words-more}
+use Rattle.integer_solve.proofs.Words.{fits-word, fits-64, same-word, same-64, one-more}
 use Rattle.integer_solve.proofs.widen.Statement.{statement}
 use Rattle.integer_solve.proofs.widen.Tie as tie
 
@@ -34,7 +35,7 @@ loop-again c =
       omega arith,
       simp length-set (omega arith),
       ap (set (l .s) (l .i)) (same-64 _ (c .s .given)) ∙ below-more (pos 0) (λ p _. getD (a .b .now) p (pos 0)) (a .s .now) (l .s) (l .i) (l .inv .2) (omega arith),
-      words-more (a .b .now) (l .i) (l .inv .3) (c .s .given),
+      one-more (λ p. Word (getD (a .b .now) p (pos 0))) (l .i) (l .inv .3) (fits-word (c .s .given)),
     )
 
 returns : tie.Need-returns Inv-loop μ-loop

@@ -1,8 +1,7 @@
 -- `zero_diagonal` searches from the first entry on.
 -- Assumes nothing.
-use mathlib.Core.Path.{_≡_, sym, ap, subst, _∙_}
-use mathlib.Core.Logic.{⊎-elim}
-use mathlib.Core.Bool.{Bool, true, false, true≢false}
+use mathlib.Core.Path.{_≡_, sym, ap}
+use mathlib.Core.Bool.{Bool, true, false}
 use mathlib.Core.List.{List}
 use Prim.Native.Nat.{ℕ, _+_, _*_, _-_, _≤_, _<_}
 use native.Mathlib.Omega.{arith}
@@ -13,13 +12,12 @@ use lib.ListN.{getD}
 use borrow.Author.Tests.{lt-ltb, le-ltb, eq-eqb, ne-eqb}
 use mir.Syntax.{w16}
 use mir.Val.{ofZ}
-use Rattle.arrays.specs.Search.{lowest}
-use Rattle.arrays.proofs.SearchLaws.{lowest-is, lowest-only, lowest-none}
-use Rattle.arrays.proofs.UpdateLaws.{lt-or-ge}
+use Rattle.arrays.specs.Search.{lowest, Lowest}
+use Rattle.arrays.proofs.SearchLaws.{lowest-only, lowest-none}
 use Rattle.definitions.specs.Storage.{stored}
 use Rattle.integer_solve.specs.Equations.{zeroDiagonal}
 use Rattle.integer_solve.proofs.Integers.{abs-zero}
-use Rattle.integer_solve.proofs.Words.{fits-16, zero-bits}
+use Rattle.integer_solve.proofs.Words.{fits-16, zero-bits, one-more}
 use Rattle.integer_solve.proofs.zero_diagonal.Statement.{statement}
 use Rattle.integer_solve.proofs.zero_diagonal.Tie as tie
 
@@ -48,11 +46,11 @@ add-if1 c = omega (arith, within c)
 mul-if1-2 : tie.Need-mul-if1-2 Inv-loop μ-loop
 mul-if1-2 c = omega (arith, within c)
 
-found : (a : List ℤ) (n i : ℕ) → i < n → test a n i ≡ true → true ≡ zeroDiagonal n a
+found : (a : List ℤ) (n i : ℕ) → i < n → ((p : ℕ) → p < i → test a n p ≡ false) → test a n i ≡ true → true ≡ zeroDiagonal n a
 unfolding zeroDiagonal
-found a n i h e =
-    let r = lowest (test a n) n in
-    sym (lt-ltb r n (⊎-elim (λ (k : i < r). absurd (true≢false (sym e ∙ lowest-is (test a n) n .before i k))) (λ k. omega arith) (lt-or-ge i r)))
+found a n i h before here =
+    let r : Lowest (test a n) n i = record { within = omega arith; passes = λ _. here; before = before } in
+    sym (lt-ltb (lowest (test a n) n) n (omega (arith, lowest-only (test a n) n i r)))
 
 not-found : (a : List ℤ) (n : ℕ) → ((p : ℕ) → p < n → test a n p ≡ false) → false ≡ zeroDiagonal n a
 unfolding zeroDiagonal
@@ -61,10 +59,10 @@ not-found a n h = sym (le-ltb (lowest (test a n) n) n (omega (arith, lowest-only
 returns : tie.Need-returns Inv-loop μ-loop
 unfolding stored
 returns c =
-    let i = c .before .before .before .loop .i in
+    let l = c .before .before .before .loop in
     let a = c .before .before .before .before .args in
-    let z = getD (a .a .now) (i * a .n + i) (pos 0) in
-    found (a .a .now) (a .n) i (omega arith) (eq-eqb (natAbs z) 0 (ap natAbs (zero-bits w16 z (fits-16 (c .before .if12 .given)) (c .if1 .taken))))
+    let z = getD (a .a .now) (l .i * a .n + l .i) (pos 0) in
+    found (a .a .now) (a .n) (l .i) (omega arith) (l .inv .1) (eq-eqb (natAbs z) 0 (ap natAbs (zero-bits w16 z (fits-16 (c .before .if12 .given)) (c .if1 .taken))))
 
 loop-again : tie.Need-loop-again Inv-loop μ-loop
 unfolding stored
@@ -72,10 +70,8 @@ loop-again c =
     let l = c .before .before .before .loop in
     let a = c .before .before .before .before .args in
     let z = getD (a .a .now) (l .i * a .n + l .i) (pos 0) in
-    let here = ne-eqb (natAbs z) 0 (λ h. c .if1 .left (ap (λ (x : ℤ). ofZ w16 x) (abs-zero z h))) in (
-      omega arith,
-      λ p h. ⊎-elim (λ q. l .inv .1 p q) (λ q. let e : l .i ≡ p = omega arith in subst (λ k. test (a .a .now) (a .n) k ≡ false) e here) (lt-or-ge p (l .i)),
-    )
+    let here = ne-eqb (natAbs z) 0 (λ h. c .if1 .left (ap (λ (x : ℤ). ofZ w16 x) (abs-zero z h))) in
+    (omega arith, one-more (λ p. test (a .a .now) (a .n) p ≡ false) (l .i) (l .inv .1) here)
 
 returns-2 : tie.Need-returns-2 Inv-loop μ-loop
 returns-2 c =
