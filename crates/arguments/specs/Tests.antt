@@ -1,7 +1,7 @@
 -- The argument check as its code goes: the rows of the table of places, and the tests in turn, each handing on the number so far.
 use Rattle.std.specs.Prelude.{ℕ, ◌≡◌, Bool, not, ◌||◌, List, [], ◌∷◌, ◌++◌, map, eqb, ℤ, get_or}
 use Rattle.arrays.specs.Choice.{if◌then◌else◌}
-use Rattle.definitions.specs.Call.{shapeA, shapeB, shape_c}
+use Rattle.definitions.specs.Call.{shape_a, shape_b, shape_c}
 use Rattle.definitions.specs.Check.{Argument, side, uplo, transa, transb, diag, size-m, size-n, size-k, ld-A, ld-B, ld-C, array-A, array-B, array-C, places, arrays, 'N', 'T', 'C', 'L', 'R', 'U', is, bad}
 use Rattle.definitions.specs.declared.Routine.{Routine}
 use Rattle.definitions.specs.declared.Args.{Args}
@@ -34,17 +34,17 @@ row_of f = map (λ x. place_in (places f ++ arrays f) (column x)) columns
 
 -- ---- the tests
 
-abbrev pub badSide : ℤ → Bool
-badSide code = not (is 'L' code || is 'R' code)
+abbrev pub bad_side : ℤ → Bool
+bad_side code = not (is 'L' code || is 'R' code)
 
-abbrev pub badUplo : ℤ → Bool
-badUplo code = not (is 'L' code || is 'U' code)
+abbrev pub bad_uplo : ℤ → Bool
+bad_uplo code = not (is 'L' code || is 'U' code)
 
-abbrev pub badTrans : ℤ → Bool
-badTrans code = not (is 'N' code || is 'T' code || is 'C' code)
+abbrev pub bad_trans : ℤ → Bool
+bad_trans code = not (is 'N' code || is 'T' code || is 'C' code)
 
-abbrev pub badDiag : ℤ → Bool
-badDiag code = not (is 'U' code || is 'N' code)
+abbrev pub bad_diag : ℤ → Bool
+bad_diag code = not (is 'U' code || is 'N' code)
 
 -- One test more: `sofar` is the number of the tests before it, 0 if they passed.
 unfoldable pub first_of : ℕ → Bool → ℕ → ℕ
@@ -56,6 +56,6 @@ tests g row sofar (x ∷ xs) = tests g row (first_of sofar (bad g x) (get_or row
 
 -- The shapes of a routine's matrices.
 pub record AreShapes (f : Routine) (k : Call) (a b c : Shape) : Type 0 where
-  pub is-a : a ≡ shapeA f k
-  pub is_b : b ≡ shapeB f k
+  pub is-a : a ≡ shape_a f k
+  pub is_b : b ≡ shape_b f k
   pub is_c : c ≡ shape_c f k

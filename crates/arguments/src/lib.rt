@@ -6,7 +6,7 @@ ghost use Rattle.definitions.specs.Call as Calls;
 ghost use Rattle.definitions.specs.Call.{◌by◌};
 ghost use Rattle.definitions.specs.Check as Check;
 ghost use Rattle.arguments.specs.Tests as Tests;
-ghost use Rattle.arguments.specs.Strip.{stripStart};
+ghost use Rattle.arguments.specs.Strip.{strip_start};
 
 use definitions::{Args, Call, Checked, Diagonal, Routine, Shape, Side, Transpose, Triangle};
 
@@ -79,7 +79,7 @@ fn side_of(code: i32) -> Side
 }
 
 pub fn uplo_of(code: i32) -> Triangle
-    ensures { result ≡ Check.uploOf code }
+    ensures { result ≡ Check.uplo_of code }
 {
     if is(b'L', code) {
         Triangle::Lower
@@ -89,7 +89,7 @@ pub fn uplo_of(code: i32) -> Triangle
 }
 
 fn trans_of(code: i32) -> Transpose
-    ensures { result ≡ Check.transOf code }
+    ensures { result ≡ Check.trans_of code }
 {
     if is(b'N', code) {
         Transpose::No
@@ -99,7 +99,7 @@ fn trans_of(code: i32) -> Transpose
 }
 
 fn diag_of(code: i32) -> Diagonal
-    ensures { result ≡ Check.diagOf code }
+    ensures { result ≡ Check.diag_of code }
 {
     if is(b'U', code) {
         Diagonal::Unit
@@ -109,25 +109,25 @@ fn diag_of(code: i32) -> Diagonal
 }
 
 fn bad_side(code: i32) -> bool
-    ensures { result ≡ Tests.badSide code }
+    ensures { result ≡ Tests.bad_side code }
 {
     !(is(b'L', code) | is(b'R', code))
 }
 
 pub fn bad_uplo(code: i32) -> bool
-    ensures { result ≡ Tests.badUplo code }
+    ensures { result ≡ Tests.bad_uplo code }
 {
     !(is(b'L', code) | is(b'U', code))
 }
 
 fn bad_trans(code: i32) -> bool
-    ensures { result ≡ Tests.badTrans code }
+    ensures { result ≡ Tests.bad_trans code }
 {
     !(is(b'N', code) | is(b'T', code) | is(b'C', code))
 }
 
 fn bad_diag(code: i32) -> bool
-    ensures { result ≡ Tests.badDiag code }
+    ensures { result ≡ Tests.bad_diag code }
 {
     !(is(b'U', code) | is(b'N', code))
 }
@@ -136,7 +136,7 @@ fn bad_diag(code: i32) -> bool
 
 // Below the larger of 1 and the stored rows of its matrix.
 fn bad_ld(ld: i32, s: Shape) -> bool
-    ensures { result ≡ Check.badLd ld s }
+    ensures { result ≡ Check.bad_ld ld s }
 {
     let n = size(ld);
     (n < 1) | (n < s.rows)
@@ -144,7 +144,7 @@ fn bad_ld(ld: i32, s: Shape) -> bool
 
 // A strip width or block size that is not 0 to 64.
 pub fn bad_width(w: i32) -> bool
-    ensures { result ≡ Check.badWidth w }
+    ensures { result ≡ Check.bad_width w }
 {
     let n = size(w);
     negative(w) | (64 < n)
@@ -163,7 +163,7 @@ pub fn width(w: i32) -> usize
 // ---- the call
 
 fn has_m(routine: Routine) -> bool
-    ensures { result ≡ Calls.hasM routine }
+    ensures { result ≡ Calls.has_m routine }
 {
     match routine {
         Routine::Gemm => true,
@@ -176,7 +176,7 @@ fn has_m(routine: Routine) -> bool
 }
 
 fn has_k(routine: Routine) -> bool
-    ensures { result ≡ Calls.hasK routine }
+    ensures { result ≡ Calls.has_k routine }
 {
     match routine {
         Routine::Gemm => true,
@@ -189,7 +189,7 @@ fn has_k(routine: Routine) -> bool
 }
 
 fn in_place(routine: Routine) -> bool
-    ensures { result ≡ Calls.inPlace routine }
+    ensures { result ≡ Calls.in_place routine }
 {
     match routine {
         Routine::Gemm => false,
@@ -203,7 +203,7 @@ fn in_place(routine: Routine) -> bool
 
 // The rows of the output: n in a routine without m.
 fn rows_of(routine: Routine, m: u32, n: u32) -> u32
-    ensures { result ≡ (if Calls.hasM routine then m else n) }
+    ensures { result ≡ (if Calls.has_m routine then m else n) }
 {
     if has_m(routine) { m } else { n }
 }
@@ -243,7 +243,7 @@ fn is_empty(c: Call) -> bool
 
 // Alpha or k is 0: the start is the result, and the inputs are not read.
 fn start_only(c: Call) -> bool
-    ensures { result ≡ Calls.startOnly c }
+    ensures { result ≡ Calls.start_only c }
 {
     let routine = c.routine;
     let alpha = c.alpha;
@@ -269,7 +269,7 @@ pub fn is_idle(c: Call) -> bool
 
 // How a matrix is stored whose op is p by q.
 fn stored_as(t: Transpose, p: u32, q: u32) -> Shape
-    ensures { result ≡ Calls.storedAs t p q }
+    ensures { result ≡ Calls.stored_as t p q }
 {
     match t {
         Transpose::No => Shape { rows: p, cols: q },
@@ -295,7 +295,7 @@ fn square(c: Call) -> Shape
 }
 
 fn shape_a(c: Call) -> Shape
-    ensures { result ≡ Calls.shapeA c.routine c }
+    ensures { result ≡ Calls.shape_a c.routine c }
 {
     let routine = c.routine;
     let t = c.transa;
@@ -310,7 +310,7 @@ fn shape_a(c: Call) -> Shape
 }
 
 fn shape_b(c: Call) -> Shape
-    ensures { result ≡ Calls.shapeB c.routine c }
+    ensures { result ≡ Calls.shape_b c.routine c }
 {
     let routine = c.routine;
     let t = c.transa;
@@ -390,7 +390,7 @@ pub fn untested(c: Call) -> bool
 
 // The length of B is not tested: B is an input, or the output of TRMM and TRSM.
 fn untested_b(c: Call) -> bool
-    ensures { result ≡ (if Calls.inPlace c.routine then Calls.empty c else Check.untested c) }
+    ensures { result ≡ (if Calls.in_place c.routine then Calls.empty c else Check.untested c) }
 {
     let routine = c.routine;
     if in_place(routine) {
@@ -444,7 +444,7 @@ fn lengths(g: Args, k: Call, a: Shape, b: Shape, c: Shape, row: [u8; 14], sofar:
 // The place of the first code, size or leading dimension that is bad, or 0.
 pub fn bad_place(g: Args, k: Call) -> u8
     requires { k ≡ Check.call_of g }
-    ensures { result ≡ Check.firstBad g (Check.places g.routine) }
+    ensures { result ≡ Check.first_bad g (Check.places g.routine) }
 {
     let routine = g.routine;
     let row = places(routine);
@@ -459,7 +459,7 @@ pub fn bad_place(g: Args, k: Call) -> u8
 // The place of the first array that is too short, or 0, after tests whose number is `sofar`.
 pub fn bad_array(g: Args, k: Call, sofar: u8) -> u8
     requires { k ≡ Check.call_of g }
-    ensures { result ≡ (if eqb sofar 0 then Check.firstBad g (Check.arrays g.routine) else sofar) }
+    ensures { result ≡ (if eqb sofar 0 then Check.first_bad g (Check.arrays g.routine) else sofar) }
 {
     let routine = g.routine;
     let row = places(routine);
@@ -499,7 +499,7 @@ pub fn check(w: i32, r: i32, g: Args) -> Checked
 // ---- strips
 
 fn is_right(s: Side) -> bool
-    ensures { result ≡ Calls.bySide s false true }
+    ensures { result ≡ Calls.by_side s false true }
 {
     match s {
         Side::Left => false,
@@ -509,7 +509,7 @@ fn is_right(s: Side) -> bool
 
 // Strips cut the rows of the output, not its columns.
 fn cuts_rows(routine: Routine, s: Side) -> bool
-    ensures { result ≡ Calls.cutsRows routine s }
+    ensures { result ≡ Calls.cuts_rows routine s }
 {
     in_place(routine) & is_right(s)
 }
@@ -529,15 +529,15 @@ pub fn extent(c: Call) -> usize
 
 // The output's leading dimension.
 fn ld_output(routine: Routine, ldb: u32, ldc: u32) -> u32
-    ensures { result ≡ (if Calls.inPlace routine then ldb else ldc) }
+    ensures { result ≡ (if Calls.in_place routine then ldb else ldc) }
 {
     if in_place(routine) { ldb } else { ldc }
 }
 
 // The element of the output's array at which the strip from `from` on starts.
 pub fn strip_start(c: Call, from: usize) -> usize
-    requires { stripStart c from < 18446744073709551616 }
-    ensures { result ≡ stripStart c from }
+    requires { strip_start c from < 18446744073709551616 }
+    ensures { result ≡ strip_start c from }
 {
     let routine = c.routine;
     let s = c.side;

@@ -9,7 +9,7 @@ use native.Mathlib.Omega.{arith}
 use lib.ListN.{length, get_or, drop, set, length-set}
 use lib.Seq.{ext_get_or, get_or-set_same, get_or-set_other}
 use borrow.Author.Tests.{lt-ltb, le-ltb}
-use Rattle.arrays.specs.Update.{updateFrom, update, below}
+use Rattle.arrays.specs.Update.{update_from, update, below}
 
 pub lt-or-ge : (m n : ℕ) → (m < n) ⊎ (n ≤ m)
 lt-or-ge m zero = inr (omega arith)
@@ -24,16 +24,16 @@ same_or_not m n =
     (lt-or-ge m n)
 
 module _ {A : Type 0} where
-  length_from : (k : ℕ) (f : ℕ → A → A) (l : List A) → length (updateFrom k f l) ≡ length l
-  unfolding updateFrom
+  length_from : (k : ℕ) (f : ℕ → A → A) (l : List A) → length (update_from k f l) ≡ length l
+  unfolding update_from
   length_from k f [] = refl
   length_from k f (x ∷ l) = ap suc (length_from (suc k) f l)
 
   pub length-update : (f : ℕ → A → A) (l : List A) → length (update f l) ≡ length l
   length-update f l = length_from 0 f l
 
-  at_from : (k : ℕ) (f : ℕ → A → A) (l : List A) (p : ℕ) (d : A) → p < length l → get_or (updateFrom k f l) p d ≡ f (k + p) (get_or l p d)
-  unfolding updateFrom
+  at_from : (k : ℕ) (f : ℕ → A → A) (l : List A) (p : ℕ) (d : A) → p < length l → get_or (update_from k f l) p d ≡ f (k + p) (get_or l p d)
+  unfolding update_from
   at_from k f [] p d h = absurd (not-suc-le-zero h)
   at_from k f (x ∷ l) zero d h = rw add-zero
   at_from k f (x ∷ l) (suc p) d h = rw (add-suc, ← suc-add) (at_from (suc k) f l p d (le_of_suc-le-suc h))
@@ -47,8 +47,8 @@ module _ {A : Type 0} where
       ext_get_or d m (update f l) (e ∙ sym (length-update f l)) (λ p b. h p (omega arith) ∙ sym (at-update f l p d (omega arith)))
 
   then-from : (k : ℕ) (f g h : ℕ → A → A) (l : List A) → ((p : ℕ) → p < k + length l → (x : A) → g p (f p x) ≡ h p x)
-      → updateFrom k g (updateFrom k f l) ≡ updateFrom k h l
-  unfolding updateFrom
+      → update_from k g (update_from k f l) ≡ update_from k h l
+  unfolding update_from
   then-from k f g h [] e = refl
   then-from k f g h (x ∷ l) e =
       let r = e k (omega arith) x in
@@ -59,8 +59,8 @@ module _ {A : Type 0} where
   pub update-then : (f g h : ℕ → A → A) (l : List A) → ((p : ℕ) → p < length l → (x : A) → g p (f p x) ≡ h p x) → update g (update f l) ≡ update h l
   update-then f g h l e = then-from 0 f g h l (λ p b. e p (omega arith))
 
-  keep-from : (k : ℕ) (f : ℕ → A → A) (l : List A) → ((p : ℕ) → p < k + length l → (x : A) → f p x ≡ x) → updateFrom k f l ≡ l
-  unfolding updateFrom
+  keep-from : (k : ℕ) (f : ℕ → A → A) (l : List A) → ((p : ℕ) → p < k + length l → (x : A) → f p x ≡ x) → update_from k f l ≡ l
+  unfolding update_from
   keep-from k f [] e = refl
   keep-from k f (x ∷ l) e =
       let r = e k (omega arith) x in
@@ -71,8 +71,8 @@ module _ {A : Type 0} where
   pub update-keep : (f : ℕ → A → A) (l : List A) → ((p : ℕ) → p < length l → (x : A) → f p x ≡ x) → update f l ≡ l
   update-keep f l e = keep-from 0 f l (λ p b. e p (omega arith))
 
-  drop-from : (k n : ℕ) (f : ℕ → A → A) (l : List A) → ((p : ℕ) → k + n ≤ p → (x : A) → f p x ≡ x) → drop n (updateFrom k f l) ≡ drop n l
-  unfolding updateFrom
+  drop-from : (k n : ℕ) (f : ℕ → A → A) (l : List A) → ((p : ℕ) → k + n ≤ p → (x : A) → f p x ≡ x) → drop n (update_from k f l) ≡ drop n l
+  unfolding update_from
   drop-from k zero f [] e = refl
   drop-from k zero f (x ∷ l) e =
       let r = e k (omega arith) x in

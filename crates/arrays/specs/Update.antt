@@ -13,12 +13,12 @@
 use Rattle.std.specs.Prelude.{Bool, ◌&&◌, List, [], ◌∷◌, ℕ, suc, ◌+◌, ◌-◌, ◌/◌, ◌%◌, leb, ltb}
 use Rattle.arrays.specs.Choice.{if◌then◌else◌}
 
-unfoldable pub updateFrom : {A : Type 0} → ℕ → (ℕ → A → A) → List A → List A
-updateFrom k f [] = []
-updateFrom k f (x ∷ xs) = f k x ∷ updateFrom (suc k) f xs
+unfoldable pub update_from : {A : Type 0} → ℕ → (ℕ → A → A) → List A → List A
+update_from k f [] = []
+update_from k f (x ∷ xs) = f k x ∷ update_from (suc k) f xs
 
 abbrev pub update : {A : Type 0} → (ℕ → A → A) → List A → List A
-update f l = updateFrom 0 f l
+update f l = update_from 0 f l
 
 unfoldable pub below : {A : Type 0} → ℕ → (ℕ → A → A) → ℕ → A → A
 below n f p x = if ltb p n then f p x else x

@@ -8,7 +8,7 @@ use lib.IntN.{ℤ, pos}
 use lib.Ieee.{Float}
 use Rattle.arrays.specs.Choice.{if◌then◌else◌}
 use Rattle.arrays.specs.Search.{none}
-use Rattle.definitions.specs.Call.{inPlace}
+use Rattle.definitions.specs.Call.{in_place}
 use Rattle.definitions.specs.Element.{zero_of, result}
 use Rattle.definitions.specs.Check.{width, call_of, checked, number, leaves, reports}
 use Rattle.definitions.specs.Direct.{done, solved}
@@ -68,7 +68,7 @@ module _ (w r : ℤ) (g : Args) (k : Checked) (answer : k ≡ checked w r g) whe
   small e h = (CheckLaws.when-refused w r g e (sym answer ∙ h)).2
 
   -- `lb` is the length of the B that is only read, `len` that of the output
-  pub goes_on : (lb len v s : ℕ) → g.lenb ≡ (if inPlace g.routine then len else lb) → g.lenc ≤ len → v ≡ width w → s ≡ width r → (c : Call) → k ≡ Ready c
+  pub goes_on : (lb len v s : ℕ) → g.lenb ≡ (if in_place g.routine then len else lb) → g.lenc ≤ len → v ≡ width w → s ≡ width r → (c : Call) → k ≡ Ready c
       → FitsArrays c g.lena lb len × (0 < v) × (v ≤ 64) × (0 < s) × (s ≤ 64)
   goes_on lb len v s eb lc ev es c h =
       let e = sym answer ∙ h in
@@ -76,7 +76,7 @@ module _ (w r : ℤ) (g : Args) (k : Checked) (answer : k ≡ checked w r g) whe
       let x = strip-width w r g ok.0 in
       let y = block_size w r g ok.0 in
       let is = ap (λ (c : Call). c.routine) ok.2 ∙ routine-kept g in (
-        subst (λ (n : ℕ). Fits c.routine c g.lena n len) (eb ∙ ap (λ (f : Routine). if inPlace f then len else lb) (sym is)) (fits-longer c _ _ _ len lc (ready-fits w r g c e)),
+        subst (λ (n : ℕ). Fits c.routine c g.lena n len) (eb ∙ ap (λ (f : Routine). if in_place f then len else lb) (sym is)) (fits-longer c _ _ _ len lc (ready-fits w r g c e)),
         omega (arith, x),
         omega (arith, x),
         omega (arith, y),

@@ -15,19 +15,19 @@ use Rattle.arrays.specs.Choice.{if◌then◌else◌}
 use Rattle.arrays.specs.Search as Search
 use Rattle.arrays.proofs.Tests.{and_left, and_right, if-true, if-false, by-test}
 use Rattle.definitions.specs.Number.{scalar}
-use Rattle.definitions.specs.Call.{inPlace, extent}
+use Rattle.definitions.specs.Call.{in_place, extent}
 use Rattle.definitions.specs.Element.{strip, zero_of}
-use Rattle.definitions.specs.Check.{nat, negative, places, arrays, firstBad, badWidth, refusal, call_of}
+use Rattle.definitions.specs.Check.{nat, negative, places, arrays, first_bad, bad_width, refusal, call_of}
 use Rattle.definitions.specs.Machine.{Act, refuse, iterate, reported}
-use Rattle.definitions.specs.Sheet.{Sheet, Arrays, A, B, C, records, sound, field, output, inputs, any, alphaOf, betaOf, array, withArray, lengths, part, partLength, badArrays, badOffsets, argsOf, recordRefusal, routine_of, stripDone, accepted, actBy, act}
-use Rattle.definitions.specs.Run.{Machine, begin, after, zeroReported, tooShort, Ran, ranTo, runs, last, firstZero, sum}
+use Rattle.definitions.specs.Sheet.{Sheet, Arrays, A, B, C, records, sound, field, output, inputs, any, alpha_of, beta_of, array, with_array, lengths, part, part_length, bad_arrays, bad_offsets, args_of, record_refusal, routine_of, strip_done, accepted, act_by, act}
+use Rattle.definitions.specs.Run.{Machine, begin, after, zero_reported, too_short, Ran, ran_to, runs, last, first_zero, sum}
 use Rattle.definitions.specs.declared.Routine.{Routine}
 use Rattle.definitions.specs.declared.Routine.TheVariants.{Gemm, Symm, Syrk, Syr2k, Trmm, Trsm}
 use Rattle.definitions.specs.declared.Args.{Args}
 use Rattle.definitions.specs.declared.Call.{Call}
 use Rattle.definitions.proofs.Answers.{refusal-allowed}
 use Rattle.definitions.proofs.MachineLaws.{whole, answer, had, SameRecords, same-finish, same-report}
-use Rattle.definitions.proofs.Records.{recordCall, whole-record, act-stable, act-steady, act-positive}
+use Rattle.definitions.proofs.Records.{record_call, whole-record, act-stable, act-steady, act-positive}
 use Rattle.definitions.proofs.Runs.{list-of-runs}
 
 -- Two sheets that are alike except in strip widths and block sizes. (What stands before the first record is not read, so it may differ too.)
@@ -35,8 +35,8 @@ pub record Alike (t u : Sheet) : Type 0 where
   pub counts : records t ≡ records u
   pub scalars : t.scalars ≡ u.scalars
   pub words : (p q : ℕ) → p < records t → q < 18 → field t p q ≡ field u p q
-  pub widths : (p : ℕ) → p < records t → (badWidth (field t p 18) ≡ false) × (badWidth (field u p 18) ≡ false)
-  pub blocks : (p : ℕ) → p < records t → (badWidth (field t p 19) ≡ false) × (badWidth (field u p 19) ≡ false)
+  pub widths : (p : ℕ) → p < records t → (bad_width (field t p 18) ≡ false) × (bad_width (field u p 18) ≡ false)
+  pub blocks : (p : ℕ) → p < records t → (bad_width (field t p 19) ≡ false) × (bad_width (field u p 19) ≡ false)
 
 -- the words of array numbers and offsets come before w and r
 abbrev near : List ℕ → Bool
@@ -50,7 +50,7 @@ same-any g h (q ∷ qs) k e =
     ap₂ (λ (x y : Bool). x || y) (e q (ltb-true _ _ (and_left (ltb (q + 1) 18) _ k))) (same-any g h qs (and_right (ltb (q + 1) 18) _ k) e)
 
 matrices-near : (f : Routine) → near (output f ∷ inputs f) ≡ true
-unfolding output inputs inPlace
+unfolding output inputs in_place
 matrices-near Gemm = refl
 matrices-near Symm = refl
 matrices-near Syrk = refl
@@ -89,8 +89,8 @@ module _ (t u : Sheet) (k : Alike t u) (p : ℕ) (h : p < records t) where
   inputs-near : (f : Routine) → near (inputs f) ≡ true
   inputs-near f = and_right (ltb (output f + 1) 18) (near (inputs f)) (matrices-near f)
 
-  same_args : (f : Routine) (size : ℕ → ℕ) → argsOf t p f size ≡ argsOf u p f size
-  unfolding argsOf partLength alphaOf betaOf
+  same_args : (f : Routine) (size : ℕ → ℕ) → args_of t p f size ≡ args_of u p f size
+  unfolding args_of part_length alpha_of beta_of
   same_args f size =
       let e : (q : ℕ) → q < 18 → field t p q ≡ field u p q = same in
       let l : (q : ℕ) → q + 1 < 18 → size (nat (field t p q)) - nat (field t p (q + 1)) ≡ size (nat (field u p q)) - nat (field u p (q + 1)) =
@@ -115,30 +115,30 @@ module _ (t u : Sheet) (k : Alike t u) (p : ℕ) (h : p < records t) where
         lenc = l C (omega arith) i;
       }
 
-  same-arrays : (f : Routine) → badArrays t p f ≡ badArrays u p f
-  unfolding badArrays
+  same-arrays : (f : Routine) → bad_arrays t p f ≡ bad_arrays u p f
+  unfolding bad_arrays
   same-arrays f =
       ap₂ (λ (x y : Bool). x || y)
       (same-any _ _ (output f ∷ inputs f) (matrices-near f) (λ q b. ap (λ (z : ℤ). negative z || ltb 2 (nat z)) (same q (omega arith))))
       (same-any _ _ (inputs f) (inputs-near f)
       (λ q b. ap₂ (λ (x y : ℤ). eqb (nat x) (nat y)) (same q (omega arith)) (same (output f) (omega (arith, output-near f)))))
 
-  same-offsets : (f : Routine) (size : ℕ → ℕ) → badOffsets t p f size ≡ badOffsets u p f size
-  unfolding badOffsets
+  same-offsets : (f : Routine) (size : ℕ → ℕ) → bad_offsets t p f size ≡ bad_offsets u p f size
+  unfolding bad_offsets
   same-offsets f size =
       same-any _ _ (output f ∷ inputs f) (matrices-near f)
       (λ q b. ap₂ (λ (o x : ℤ). negative o || ltb (size (nat x)) (nat o)) (same (q + 1) b) (same q (omega arith)))
 
   -- both are refused with the same number, or both are accepted
-  same-refusal : (size : ℕ → ℕ) (o : Option Routine) → recordRefusal t p size o ≡ recordRefusal u p size o
-  unfolding recordRefusal
+  same-refusal : (size : ℕ → ℕ) (o : Option Routine) → record_refusal t p size o ≡ record_refusal u p size o
+  unfolding record_refusal
   same-refusal size none = refl
   same-refusal size (some f) =
       let x = same-arrays f in
       let y = same-offsets f size in
-      let z : refusal (field t p 18) (field t p 19) (argsOf t p f size) ≡ refusal (field u p 18) (field u p 19) (argsOf u p f size) =
+      let z : refusal (field t p 18) (field t p 19) (args_of t p f size) ≡ refusal (field u p 18) (field u p 19) (args_of u p f size) =
       refusal-allowed _ _ _ (k.widths p h).0 (k.blocks p h).0
-      ∙ ap (λ (g : Args). firstBad g (places g.routine ++ arrays g.routine)) (same_args f size)
+      ∙ ap (λ (g : Args). first_bad g (places g.routine ++ arrays g.routine)) (same_args f size)
       ∙ sym (refusal-allowed _ _ _ (k.widths p h).1 (k.blocks p h).1) in
       λ i. if x i then 32 else if y i then 33 else z i
 
@@ -146,30 +146,30 @@ module _ (t u : Sheet) (k : Alike t u) (p : ℕ) (h : p < records t) where
   unfolding part
   same-part q b l = ap₂ (λ (x o : ℤ). drop (nat o) (array l (nat x))) (same q (omega arith)) (same (q + 1) b)
 
-  same-done : (f : Routine) (c : Call) (from to : ℕ) (l : Arrays) → stripDone t p f c from to l ≡ stripDone u p f c from to l
-  unfolding stripDone
+  same-done : (f : Routine) (c : Call) (from to : ℕ) (l : Arrays) → strip_done t p f c from to l ≡ strip_done u p f c from to l
+  unfolding strip_done
   same-done f c from to l =
       let n = same (output f) (omega (arith, output-near f)) in
       let o = same (output f + 1) (output-near f) in
       let a = same-part A (omega arith) l in
       let b = same-part B (omega arith) l in
       let x = same-part (output f) (output-near f) l in
-      λ i. withArray l (nat (n i)) (take (nat (o i)) (array l (nat (n i))) ++ strip c (a i) (b i) from to (x i))
+      λ i. with_array l (nat (n i)) (take (nat (o i)) (array l (nat (n i))) ++ strip c (a i) (b i) from to (x i))
 
-  same-act : (l : Arrays) (o : Option Routine) → (whole (actBy t p (lengths l) o) l ≡ whole (actBy u p (lengths l) o) l) × (answer (actBy t p (lengths l) o) ≡ answer (actBy u p (lengths l) o))
-      × (had (actBy t p (lengths l) o) l ≡ had (actBy u p (lengths l) o) l)
-  unfolding actBy
+  same-act : (l : Arrays) (o : Option Routine) → (whole (act_by t p (lengths l) o) l ≡ whole (act_by u p (lengths l) o) l) × (answer (act_by t p (lengths l) o) ≡ answer (act_by u p (lengths l) o))
+      × (had (act_by t p (lengths l) o) l ≡ had (act_by u p (lengths l) o) l)
+  unfolding act_by
   same-act l none = (refl, refl, refl)
   same-act l (some f) =
-      by-test (eqb (recordRefusal t p (lengths l) (some f)) 0)
+      by-test (eqb (record_refusal t p (lengths l) (some f)) 0)
       (λ e.
       let et = eqb-true _ 0 e in
       let eu = sym same_number ∙ et in
-      let yt = if-true _ _ (refuse (recordRefusal t p (lengths l) (some f))) e in
-      let yu = if-true _ _ (refuse (recordRefusal u p (lengths l) (some f))) (eq-eqb _ 0 eu) in (
+      let yt = if-true _ _ (refuse (record_refusal t p (lengths l) (some f))) e in
+      let yu = if-true _ _ (refuse (record_refusal u p (lengths l) (some f))) (eq-eqb _ 0 eu) in (
         ap (λ (a : Act Arrays). whole a l) yt ∙ whole-record t p l f et
-            ∙ same-done f (recordCall t p (lengths l) f) 0 _ l
-            ∙ ap (λ (g : Args). stripDone u p f (call_of g) 0 (extent (call_of g)) l) (same_args f (lengths l))
+            ∙ same-done f (record_call t p (lengths l) f) 0 _ l
+            ∙ ap (λ (g : Args). strip_done u p f (call_of g) 0 (extent (call_of g)) l) (same_args f (lengths l))
             ∙ sym (ap (λ (a : Act Arrays). whole a l) yu ∙ whole-record u p l f eu),
         ap answer yt ∙ accepted-answers t p f _ ∙ sym (ap answer yu ∙ accepted-answers u p f _),
         ap (λ (a : Act Arrays). had a l) yt ∙ accepted-has t p f _ l
@@ -177,14 +177,14 @@ module _ (t u : Sheet) (k : Alike t u) (p : ℕ) (h : p < records t) where
             ∙ sym (ap (λ (a : Act Arrays). had a l) yu ∙ accepted-has u p f _ l),
       ))
       (λ e.
-      let nt = if-false _ (accepted t p f (recordCall t p (lengths l) f)) _ e in
-      let nu = if-false _ (accepted u p f (recordCall u p (lengths l) f)) _ (sym (ap (λ (n : ℕ). eqb n 0) same_number) ∙ e) in (
+      let nt = if-false _ (accepted t p f (record_call t p (lengths l) f)) _ e in
+      let nu = if-false _ (accepted u p f (record_call u p (lengths l) f)) _ (sym (ap (λ (n : ℕ). eqb n 0) same_number) ∙ e) in (
         ap (λ (a : Act Arrays). whole a l) nt ∙ refused-keeps _ l ∙ sym (ap (λ (a : Act Arrays). whole a l) nu ∙ refused-keeps _ l),
         ap answer nt ∙ refused-answers _ ∙ same_number ∙ sym (ap answer nu ∙ refused-answers _),
         ap (λ (a : Act Arrays). had a l) nt ∙ refused-has _ l ∙ sym (ap (λ (a : Act Arrays). had a l) nu ∙ refused-has _ l),
       ))
     where
-      same_number : recordRefusal t p (lengths l) (some f) ≡ recordRefusal u p (lengths l) (some f)
+      same_number : record_refusal t p (lengths l) (some f) ≡ record_refusal u p (lengths l) (some f)
       same_number = same-refusal (lengths l) (some f)
 
 same-records : (t u : Sheet) → Alike t u → SameRecords (records t) (act t) (act u)
@@ -192,17 +192,17 @@ unfolding act
 same-records t u k p h l =
     let e : routine_of (field t p 0) ≡ routine_of (field u p 0) = ap routine_of (k.words p 0 h (omega arith)) in
     let s = same-act t u k p h l (routine_of (field t p 0)) in (
-      s.0 ∙ ap (λ (o : Option Routine). whole (actBy u p (lengths l) o) l) e,
-      s.1 ∙ ap (λ (o : Option Routine). answer (actBy u p (lengths l) o)) e,
-      s.2 ∙ ap (λ (o : Option Routine). had (actBy u p (lengths l) o) l) e,
+      s.0 ∙ ap (λ (o : Option Routine). whole (act_by u p (lengths l) o) l) e,
+      s.1 ∙ ap (λ (o : Option Routine). answer (act_by u p (lengths l) o)) e,
+      s.2 ∙ ap (λ (o : Option Routine). had (act_by u p (lengths l) o) l) e,
     )
 
 -- The plain machines of two alike sheets, begun on the same arrays and answers at (0, 0), have the same arrays and answers at the finish, and the same report.
 pub alike-machines : (t u : Sheet) → Alike t u → (l : Arrays) (answers : List ℤ) (n n' : ℕ)
     → (after t n (begin l answers 0 0)).p ≡ records t → (after u n' (begin l answers 0 0)).p ≡ records u
     → ((after t n (begin l answers 0 0)).arrays ≡ (after u n' (begin l answers 0 0)).arrays) × ((after t n (begin l answers 0 0)).answers ≡ (after u n' (begin l answers 0 0)).answers)
-    × (zeroReported t n (begin l answers 0 0) ≡ zeroReported u n' (begin l answers 0 0))
-unfolding after begin zeroReported
+    × (zero_reported t n (begin l answers 0 0) ≡ zero_reported u n' (begin l answers 0 0))
+unfolding after begin zero_reported
 alike-machines t u k l answers n n' h h' =
     let st = begin l answers 0 0 in
     let to = subst (λ (m : ℕ). (iterate m (act u) n' st).p ≡ m) (sym k.counts) h' in
@@ -214,17 +214,17 @@ alike-machines t u k l answers n n' h h' =
     ∙ ap (λ (m : ℕ). reported m (act u) n' st) k.counts in
     (ap (λ (s : Machine). s.arrays) e, ap (λ (s : Machine). s.answers) e, z)
 
-same-long : (t u : Sheet) → Alike t u → (answers : List ℤ) → tooShort u answers ≡ tooShort t answers
-unfolding tooShort
+same-long : (t u : Sheet) → Alike t u → (answers : List ℤ) → too_short u answers ≡ too_short t answers
+unfolding too_short
 same-long t u k answers =
     ap₂ (λ (n : ℕ) (xs : List Float). ltb (length answers) n || ltb (length xs) (2 * n)) (sym k.counts) (sym k.scalars)
 
 -- The same for lists of runs, whatever the budgets of either, that finish: their cursors are at the count.
-pub alike_runs : (t u : Sheet) → sound t ≡ true → sound u ≡ true → Alike t u → (l : Arrays) (answers : List ℤ) → tooShort t answers ≡ false → (bs cs : List ℕ)
-    → let r : Ran = ranTo (begin l answers 0 0) 0 Search.none in
+pub alike_runs : (t u : Sheet) → sound t ≡ true → sound u ≡ true → Alike t u → (l : Arrays) (answers : List ℤ) → too_short t answers ≡ false → (bs cs : List ℕ)
+    → let r : Ran = ran_to (begin l answers 0 0) 0 Search.none in
     (last r (runs t bs r)).end.p ≡ pos (records t) → (last r (runs u cs r)).end.p ≡ pos (records u)
     → ((last r (runs t bs r)).arrays ≡ (last r (runs u cs r)).arrays) × ((last r (runs t bs r)).answers ≡ (last r (runs u cs r)).answers)
-    × (firstZero (runs t bs r) ≡ firstZero (runs u cs r))
+    × (first_zero (runs t bs r) ≡ first_zero (runs u cs r))
 alike_runs t u st su k l answers long bs cs h h' =
     let x = list-of-runs t st bs l answers long in
     let y = list-of-runs u su cs l answers (same-long t u k answers ∙ long) in

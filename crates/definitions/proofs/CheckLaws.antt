@@ -12,8 +12,8 @@ use lib.ListN.{get_or}
 use borrow.Author.Tests.{eqb-true, eqb-false, leb-true, ltb-false}
 use Rattle.arrays.specs.Choice.{if◌then◌else◌}
 use Rattle.arrays.proofs.Tests.{and_left, and_right, or_left, or_right}
-use Rattle.definitions.specs.Call.{inPlace, shapeB}
-use Rattle.definitions.specs.Check.{Argument, side, uplo, transa, transb, diag, size-m, size-n, size-k, ld-A, ld-B, ld-C, array-A, array-B, array-C, Place, places, arrays, nat, badLd, bad, badWith, firstBad, badWidth, width, refusal, call_of, idle, checked}
+use Rattle.definitions.specs.Call.{in_place, shape_b}
+use Rattle.definitions.specs.Check.{Argument, side, uplo, transa, transb, diag, size-m, size-n, size-k, ld-A, ld-B, ld-C, array-A, array-B, array-C, Place, places, arrays, nat, bad_ld, bad, bad_with, first_bad, bad_width, width, refusal, call_of, idle, checked}
 use Rattle.definitions.specs.declared.Routine.{Routine}
 use Rattle.definitions.specs.declared.Routine.TheVariants.{Gemm, Symm, Syrk, Syr2k, Trmm, Trsm}
 use Rattle.definitions.specs.declared.Args.{Args}
@@ -70,19 +70,19 @@ one_of : (b : Bool) (n rest : ℕ) → n ≤ 30 → rest ≤ 30 → (if b then n
 one_of true n rest h e = h
 one_of false n rest h e = e
 
-first-bound : (g : Args) (ps : List Place) → placed ps ≡ true → firstBad g ps ≤ 30
-unfolding placed firstBad
+first-bound : (g : Args) (ps : List Place) → placed ps ≡ true → first_bad g ps ≤ 30
+unfolding placed first_bad
 first-bound g [] h = omega arith
 first-bound g (p ∷ ps) h =
     let here = not (eqb p.place 0) && leb p.place 30 in
-    one_of (bad g p.argument) p.place (firstBad g ps)
+    one_of (bad g p.argument) p.place (first_bad g ps)
     (leb-true p.place 30 (and_right (not (eqb p.place 0)) (leb p.place 30) (and_left here (placed ps) h)))
     (first-bound g ps (and_right here (placed ps) h))
 
 refusal-bound : (w r : ℤ) (g : Args) → refusal w r g ≤ 30
 unfolding refusal
 refusal-bound w r g =
-    one_of (badWidth w || badWidth r) 30 (firstBad g (places g.routine ++ arrays g.routine)) (omega arith)
+    one_of (bad_width w || bad_width r) 30 (first_bad g (places g.routine ++ arrays g.routine)) (omega arith)
     (first-bound g (places g.routine ++ arrays g.routine) (all_placed g.routine))
 
 module _ (w r : ℤ) (g : Args) where
@@ -102,8 +102,8 @@ module _ (w r : ℤ) (g : Args) where
 
 -- ---- an accepted call: its widths
 
-pub in-range : (w : ℤ) → badWidth w ≡ false → (0 < width w) × (width w ≤ 64)
-unfolding badWidth width
+pub in-range : (w : ℤ) → bad_width w ≡ false → (0 < width w) × (width w ≤ 64)
+unfolding bad_width width
 in-range (pos zero) h = (omega arith, omega arith)
 in-range (pos (suc n)) h = (omega arith, ltb-false 64 (suc n) h)
 in-range (negsuc n) h = absurd (true≢false h)
@@ -113,17 +113,17 @@ chosen true e h = absurd (omega arith)
 chosen false e h = (refl, h)
 
 module _ (w r : ℤ) (g : Args) (h : refusal w r g ≡ 0) where
-  parts : ((badWidth w || badWidth r) ≡ false) × (firstBad g (places g.routine ++ arrays g.routine) ≡ 0)
+  parts : ((bad_width w || bad_width r) ≡ false) × (first_bad g (places g.routine ++ arrays g.routine) ≡ 0)
   unfolding refusal
-  parts = chosen (badWidth w || badWidth r) (firstBad g (places g.routine ++ arrays g.routine)) h
+  parts = chosen (bad_width w || bad_width r) (first_bad g (places g.routine ++ arrays g.routine)) h
 
   pub strip-width : (0 < width w) × (width w ≤ 64)
-  strip-width = in-range w (or_left (badWidth w) (badWidth r) parts.0)
+  strip-width = in-range w (or_left (bad_width w) (bad_width r) parts.0)
 
   pub block_size : (0 < width r) × (width r ≤ 64)
-  block_size = in-range r (or_right (badWidth w) (badWidth r) parts.0)
+  block_size = in-range r (or_right (bad_width w) (bad_width r) parts.0)
 
-  pub none-bad : firstBad g (places g.routine ++ arrays g.routine) ≡ 0
+  pub none-bad : first_bad g (places g.routine ++ arrays g.routine) ≡ 0
   none-bad = parts.1
 
 -- ---- an accepted call: each argument that the routine has
@@ -150,11 +150,11 @@ unfoldable pub place_in : List Place → ℕ → ℕ
 place_in [] k = 0
 place_in (p ∷ ps) k = let rest = place_in ps k in if eqb (column p.argument) k then p.place else rest
 
-argumentAt : ℕ → Argument
-argumentAt k = get_or (side ∷ uplo ∷ transa ∷ transb ∷ diag ∷ size-m ∷ size-n ∷ size-k ∷ ld-A ∷ ld-B ∷ ld-C ∷ array-A ∷ array-B ∷ array-C ∷ []) k side
+argument_at : ℕ → Argument
+argument_at k = get_or (side ∷ uplo ∷ transa ∷ transb ∷ diag ∷ size-m ∷ size-n ∷ size-k ∷ ld-A ∷ ld-B ∷ ld-C ∷ array-A ∷ array-B ∷ array-C ∷ []) k side
 
-at-column : (x : Argument) → argumentAt (column x) ≡ x
-unfolding argumentAt column
+at-column : (x : Argument) → argument_at (column x) ≡ x
+unfolding argument_at column
 at-column side = refl
 at-column uplo = refl
 at-column transa = refl
@@ -171,7 +171,7 @@ at-column array-B = refl
 at-column array-C = refl
 
 same-argument : (x y : Argument) → column x ≡ column y → x ≡ y
-same-argument x y e = sym (at-column x) ∙ ap argumentAt e ∙ at-column y
+same-argument x y e = sym (at-column x) ∙ ap argument_at e ∙ at-column y
 
 -- The routine has the argument.
 unfoldable pub has : Routine → Argument → Bool
@@ -183,11 +183,11 @@ head_passed (suc n) true more rest p h = absurd (omega arith)
 head_passed (suc n) false more rest p h = (refl, h)
 
 module _ (g : Args) (x : Argument) where
-  in_list : (ps : List Place) → placed ps ≡ true → firstBad g ps ≡ 0 → not (eqb (place_in ps (column x)) 0) ≡ true → bad g x ≡ false
-  unfolding placed firstBad place_in
+  in_list : (ps : List Place) → placed ps ≡ true → first_bad g ps ≡ 0 → not (eqb (place_in ps (column x)) 0) ≡ true → bad g x ≡ false
+  unfolding placed first_bad place_in
   in_list [] p h e = absurd (clash cc)
   in_list (q ∷ ps) p h e =
-      let s = head_passed q.place (bad g q.argument) (placed ps) (firstBad g ps) p h in
+      let s = head_passed q.place (bad g q.argument) (placed ps) (first_bad g ps) p h in
       go (eqb (column q.argument) (column x)) refl e s.0 (in_list ps (and_right (not (eqb q.place 0) && leb q.place 30) (placed ps) p) s.1)
     where
       go : (b : Bool) → eqb (column q.argument) (column x) ≡ b → not (eqb (if b then q.place else place_in ps (column x)) 0) ≡ true
@@ -195,27 +195,27 @@ module _ (g : Args) (x : Argument) where
       go true t n here after = subst (λ (y : Argument). bad g y ≡ false) (same-argument q.argument x (eqb-true _ _ t)) here
       go false t n here after = after n
 
-  pub passed : (f : Routine) → firstBad g (places f ++ arrays f) ≡ 0 → has f x ≡ true → bad g x ≡ false
+  pub passed : (f : Routine) → first_bad g (places f ++ arrays f) ≡ 0 → has f x ≡ true → bad g x ≡ false
   unfolding has
   passed f h e = in_list (places f ++ arrays f) (all_placed f) h e
 
 -- ---- leading dimensions
 
-pub good-ld : (ld : ℤ) (s : Shape) → badLd ld s ≡ false → s.rows ≤ nat ld
-unfolding badLd
+pub good-ld : (ld : ℤ) (s : Shape) → bad_ld ld s ≡ false → s.rows ≤ nat ld
+unfolding bad_ld
 good-ld ld s h = le_trans (le-max_right _ _) (ltb-false _ _ h)
 
 -- the leading dimension of a B that is written over
-pub room-in-place : (w r : ℤ) (g : Args) → refusal w r g ≡ 0 → inPlace g.routine ≡ true → (call_of g).m ≤ (call_of g).ldb
-unfolding inPlace has place_in places arrays column shapeB bad badWith call_of
+pub room-in-place : (w r : ℤ) (g : Args) → refusal w r g ≡ 0 → in_place g.routine ≡ true → (call_of g).m ≤ (call_of g).ldb
+unfolding in_place has place_in places arrays column shape_b bad bad_with call_of
 room-in-place w r g h p = go g.routine refl p
   where
-    rows : (f : Routine) → g.routine ≡ f → has f ld-B ≡ true → (shapeB f (call_of g)).rows ≤ nat g.ldb
+    rows : (f : Routine) → g.routine ≡ f → has f ld-B ≡ true → (shape_b f (call_of g)).rows ≤ nat g.ldb
     rows f e t =
-        good-ld g.ldb (shapeB f (call_of g))
-        (ap (λ (f : Routine). badLd g.ldb (shapeB f (call_of g))) (sym e) ∙ passed g ld-B g.routine (none-bad w r g h) (ap (λ (f : Routine). has f ld-B) e ∙ t))
+        good-ld g.ldb (shape_b f (call_of g))
+        (ap (λ (f : Routine). bad_ld g.ldb (shape_b f (call_of g))) (sym e) ∙ passed g ld-B g.routine (none-bad w r g h) (ap (λ (f : Routine). has f ld-B) e ∙ t))
 
-    go : (f : Routine) → g.routine ≡ f → inPlace f ≡ true → (call_of g).m ≤ nat g.ldb
+    go : (f : Routine) → g.routine ≡ f → in_place f ≡ true → (call_of g).m ≤ nat g.ldb
     go Gemm e p = absurd (true≢false (sym p))
     go Symm e p = absurd (true≢false (sym p))
     go Syrk e p = absurd (true≢false (sym p))

@@ -12,10 +12,10 @@ use lib.IntN.{ℤ}
 use borrow.Author.Tests.{ltb-false}
 use Rattle.arrays.specs.Choice.{if◌then◌else◌}
 use Rattle.arrays.proofs.Tests.{or_left, or_right}
-use Rattle.definitions.specs.Number.{isOne}
+use Rattle.definitions.specs.Number.{is_one}
 use Rattle.definitions.specs.Storage.{needed}
-use Rattle.definitions.specs.Call.{◌by◌, hasM, inPlace, empty, startOnly, shapeA, shapeB, shape_c, ldOutput}
-use Rattle.definitions.specs.Check.{ld-A, ld-B, ld-C, array-A, array-B, array-C, places, arrays, nat, short, untested, badWith, bad, firstBad, call_of, idle, checked}
+use Rattle.definitions.specs.Call.{◌by◌, has_m, in_place, empty, start_only, shape_a, shape_b, shape_c, ld_output}
+use Rattle.definitions.specs.Check.{ld-A, ld-B, ld-C, array-A, array-B, array-C, places, arrays, nat, short, untested, bad_with, bad, first_bad, call_of, idle, checked}
 use Rattle.definitions.specs.declared.Routine.{Routine}
 use Rattle.definitions.specs.declared.Routine.TheVariants.{Gemm, Symm, Syrk, Syr2k, Trmm, Trsm}
 use Rattle.definitions.specs.declared.Args.{Args}
@@ -34,13 +34,13 @@ pub record Fits (f : Routine) (c : Call) (lena lenb lenc : ℕ) : Type 0 where
   pub routine-is : c.routine ≡ f
   pub some-rows : 0 < c.m
   pub some-columns : 0 < c.n
-  pub square : hasM f ≡ false → c.m ≡ c.n
-  pub ld-a : (shapeA f c).rows ≤ c.lda
-  pub ld-b : (shapeB f c).rows ≤ c.ldb
+  pub square : has_m f ≡ false → c.m ≡ c.n
+  pub ld-a : (shape_a f c).rows ≤ c.lda
+  pub ld-b : (shape_b f c).rows ≤ c.ldb
   pub ld-c : (shape_c f c).rows ≤ c.ldc
-  pub room-a : startOnly c ≡ false → Room lena c.lda (shapeA f c)
-  pub room-b : startOnly c ≡ false → Room lenb c.ldb (shapeB f c)
-  pub room-written-b : inPlace f ≡ true → Room lenb c.ldb (shapeB f c)
+  pub room-a : start_only c ≡ false → Room lena c.lda (shape_a f c)
+  pub room-b : start_only c ≡ false → Room lenb c.ldb (shape_b f c)
+  pub room-written-b : in_place f ≡ true → Room lenb c.ldb (shape_b f c)
   pub room-c : Room lenc c.ldc (shape_c f c)
 
 -- An entry of a matrix for which the array has room is in the array.
@@ -65,7 +65,7 @@ tested false b h k = h
 
 -- What holds of an empty shape and of the shape of a matrix that the routine has, holds of the matrix's shape.
 module _ (k : Call) (P : Shape → Type 0) (none : P (0 by 0)) where
-  by-A : (f : Routine) → (has f ld-A ≡ true → has f array-A ≡ true → P (shapeA f k)) → P (shapeA f k)
+  by-A : (f : Routine) → (has f ld-A ≡ true → has f array-A ≡ true → P (shape_a f k)) → P (shape_a f k)
   unfolding has place_in places arrays column
   by-A Gemm h = h refl refl
   by-A Symm h = h refl refl
@@ -74,8 +74,8 @@ module _ (k : Call) (P : Shape → Type 0) (none : P (0 by 0)) where
   by-A Trmm h = h refl refl
   by-A Trsm h = h refl refl
 
-  by-B : (f : Routine) → (has f ld-B ≡ true → has f array-B ≡ true → P (shapeB f k)) → P (shapeB f k)
-  unfolding has place_in places arrays column shapeB
+  by-B : (f : Routine) → (has f ld-B ≡ true → has f array-B ≡ true → P (shape_b f k)) → P (shape_b f k)
+  unfolding has place_in places arrays column shape_b
   by-B Gemm h = h refl refl
   by-B Symm h = h refl refl
   by-B Syrk h = none
@@ -100,7 +100,7 @@ no-room-needed : (len ld : ℕ) → Room len ld (0 by 0)
 unfolding needed
 no-room-needed len ld = omega arith
 
-module _ (g : Args) (h : firstBad g (places g.routine ++ arrays g.routine) ≡ 0) (busy : idle (call_of g) ≡ false) where
+module _ (g : Args) (h : first_bad g (places g.routine ++ arrays g.routine) ≡ 0) (busy : idle (call_of g) ≡ false) where
   abbrev f : Routine
   f = g.routine
 
@@ -109,34 +109,34 @@ module _ (g : Args) (h : firstBad g (places g.routine ++ arrays g.routine) ≡ 0
 
   not-empty : empty k ≡ false
   unfolding idle
-  not-empty = or_left (empty k) (not (inPlace k.routine) && (startOnly k && isOne k.beta)) busy
+  not-empty = or_left (empty k) (not (in_place k.routine) && (start_only k && is_one k.beta)) busy
 
-  is-tested : startOnly k ≡ false → untested k ≡ false
+  is-tested : start_only k ≡ false → untested k ≡ false
   unfolding untested
   is-tested e = rw (not-empty, e)
 
   pub accepted-fits : Fits k.routine k g.lena g.lenb g.lenc
-  unfolding empty call_of bad badWith
+  unfolding empty call_of bad bad_with
   accepted-fits = record {
     routine-is = refl;
     some-rows = above_zero k.m (or_left (eqb k.m 0) (eqb k.n 0) not-empty);
     some-columns = above_zero k.n (or_right (eqb k.m 0) (eqb k.n 0) not-empty);
     square = λ e. rw e;
-    ld-a = by-A k (λ s. s.rows ≤ nat g.lda) (omega arith) f (λ e d. good-ld g.lda (shapeA f k) (passed g ld-A f h e));
-    ld-b = by-B k (λ s. s.rows ≤ nat g.ldb) (omega arith) f (λ e d. good-ld g.ldb (shapeB f k) (passed g ld-B f h e));
+    ld-a = by-A k (λ s. s.rows ≤ nat g.lda) (omega arith) f (λ e d. good-ld g.lda (shape_a f k) (passed g ld-A f h e));
+    ld-b = by-B k (λ s. s.rows ≤ nat g.ldb) (omega arith) f (λ e d. good-ld g.ldb (shape_b f k) (passed g ld-B f h e));
     ld-c = by-C k (λ s. s.rows ≤ nat g.ldc) (omega arith) f (λ e d. good-ld g.ldc (shape_c f k) (passed g ld-C f h e));
     room-a = λ some. by-A k (Room g.lena k.lda) (no-room-needed _ _) f
-        (λ d e. has_room (untested k) g.lena k.lda (shapeA f k) (passed g array-A f h e) (is-tested some));
+        (λ d e. has_room (untested k) g.lena k.lda (shape_a f k) (passed g array-A f h e) (is-tested some));
     room-b = λ some. by-B k (Room g.lenb k.ldb) (no-room-needed _ _) f
-        (λ d e. has_room (if inPlace f then empty k else untested k) g.lenb k.ldb (shapeB f k) (passed g array-B f h e) (written-or-read some));
+        (λ d e. has_room (if in_place f then empty k else untested k) g.lenb k.ldb (shape_b f k) (passed g array-B f h e) (written-or-read some));
     room-written-b = λ place. by-B k (Room g.lenb k.ldb) (no-room-needed _ _) f
-        (λ d e. has_room (if inPlace f then empty k else untested k) g.lenb k.ldb (shapeB f k) (passed g array-B f h e) (rw place not-empty));
+        (λ d e. has_room (if in_place f then empty k else untested k) g.lenb k.ldb (shape_b f k) (passed g array-B f h e) (rw place not-empty));
     room-c = by-C k (Room g.lenc k.ldc) (no-room-needed _ _) f
         (λ d e. has_room (empty k) g.lenc k.ldc (shape_c f k) (passed g array-C f h e) not-empty);
   }
     where
-      written-or-read : startOnly k ≡ false → (if inPlace f then empty k else untested k) ≡ false
-      written-or-read some = go (inPlace f)
+      written-or-read : start_only k ≡ false → (if in_place f then empty k else untested k) ≡ false
+      written-or-read some = go (in_place f)
         where
           go : (b : Bool) → (if b then empty k else untested k) ≡ false
           go true = not-empty
@@ -152,13 +152,13 @@ module _ (w r : ℤ) (g : Args) where
 
 -- What is written is m by n, in the array of C, or of B for TRMM and TRSM.
 pub output-fits : (c : Call) (lena lenb lenc : ℕ) → Fits c.routine c lena lenb lenc
-    → (c.m ≤ ldOutput c) × Room (if inPlace c.routine then lenb else lenc) (ldOutput c) (c.m by c.n)
-unfolding ldOutput hasM inPlace shapeB shape_c
+    → (c.m ≤ ld_output c) × Room (if in_place c.routine then lenb else lenc) (ld_output c) (c.m by c.n)
+unfolding ld_output has_m in_place shape_b shape_c
 output-fits c lena lenb lenc h = go c.routine h.square h.ld-b h.ld-c h.room-written-b h.room-c
   where
-    go : (f : Routine) → (hasM f ≡ false → c.m ≡ c.n) → (shapeB f c).rows ≤ c.ldb → (shape_c f c).rows ≤ c.ldc
-        → (inPlace f ≡ true → Room lenb c.ldb (shapeB f c)) → Room lenc c.ldc (shape_c f c)
-        → (c.m ≤ (if inPlace f then c.ldb else c.ldc)) × Room (if inPlace f then lenb else lenc) (if inPlace f then c.ldb else c.ldc) (c.m by c.n)
+    go : (f : Routine) → (has_m f ≡ false → c.m ≡ c.n) → (shape_b f c).rows ≤ c.ldb → (shape_c f c).rows ≤ c.ldc
+        → (in_place f ≡ true → Room lenb c.ldb (shape_b f c)) → Room lenc c.ldc (shape_c f c)
+        → (c.m ≤ (if in_place f then c.ldb else c.ldc)) × Room (if in_place f then lenb else lenc) (if in_place f then c.ldb else c.ldc) (c.m by c.n)
     go Gemm q b d u v = (d, v)
     go Symm q b d u v = (d, v)
     go Syrk q b d u v = rw (q refl) (d, v)

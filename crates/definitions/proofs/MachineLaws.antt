@@ -17,7 +17,7 @@ use Rattle.arrays.specs.Search.{none, earlier}
 use Rattle.arrays.proofs.Tests.{if-true, if-false, by-test}
 use Rattle.arrays.proofs.UpdateLaws.{lt-or-ge}
 use Rattle.arrays.proofs.SearchLaws.{earlier-assoc}
-use Rattle.definitions.specs.Machine.{State, Act, refuse, work, stripsOf, closed, perform, counts, finished, step, iterate, made, reported}
+use Rattle.definitions.specs.Machine.{State, Act, refuse, work, strips_of, closed, perform, counts, finished, step, iterate, made, reported}
 
 module _ {M : Type 0} where
   -- What a record does in all, its answer, and whether it has a zero.
@@ -165,11 +165,11 @@ module _ {M : Type 0} where
     -- The cursor is within the records, and s is 0 or a strip of an accepted record.
     pub record Placed (st : State M) : Type 0 where
       pub within : st.p ≤ count
-      pub at-strip : 0 < st.s → (st.p < count) × (st.s < stripsOf (act st.p st.arrays))
+      pub at-strip : 0 < st.s → (st.p < count) × (st.s < strips_of (act st.p st.arrays))
 
     module _ (stable : Stable act) where
       placed-perform : (a : Act M) (st : State M) → act st.p st.arrays ≡ a → st.p < count → Placed (perform a st)
-      unfolding perform closed stripsOf
+      unfolding perform closed strips_of
       placed-perform (refuse number) st e h = record { within = omega arith; at-strip = λ z. absurd (let f : ⊥ = omega arith in f) }
       placed-perform (work n f z) st e h =
           by-test (ltb (suc st.s) n)
@@ -177,7 +177,7 @@ module _ {M : Type 0} where
           rw t
           (record {
             within = omega arith;
-            at-strip = λ _. (h, subst (λ (a : Act M). suc st.s < stripsOf a) (sym (stable st.p st.arrays n f z st.s e)) (ltb-true _ _ t));
+            at-strip = λ _. (h, subst (λ (a : Act M). suc st.s < strips_of a) (sym (stable st.p st.arrays n f z st.s e)) (ltb-true _ _ t));
           }))
           (λ t. rw t (record { within = omega arith; at-strip = λ z. absurd (let f : ⊥ = omega arith in f) }))
 
@@ -199,8 +199,8 @@ module _ {M : Type 0} where
       -- ---- the finish
 
       -- the state after record p, from its first strip on
-      abbrev pub recordDone : M → List ℤ → ℕ → State M
-      recordDone m answers p = at (whole (act p m) m) (set answers p (pos (answer (act p m)))) (suc p) 0
+      abbrev pub record_done : M → List ℤ → ℕ → State M
+      record_done m answers p = at (whole (act p m) m) (set answers p (pos (answer (act p m)))) (suc p) 0
 
       module _ (m : M) (answers : List ℤ) (p n : ℕ) (f : ℕ → M → M) (z : M → Bool) (e : act p m ≡ work n f z) (h : p < count) where
         abbrev after : ℕ → M
@@ -260,7 +260,7 @@ module _ {M : Type 0} where
 
       module _ (steady : Steady act) (positive : Positive act) where
         record-comes : (m : M) (answers : List ℤ) (p : ℕ) → p < count
-            → (k : ℕ) × (iterate count act k (at m answers p 0) ≡ recordDone m answers p) × (reported count act k (at m answers p 0) ≡ report (had (act p m) m) p)
+            → (k : ℕ) × (iterate count act k (at m answers p 0) ≡ record_done m answers p) × (reported count act k (at m answers p 0) ≡ report (had (act p m) m) p)
         unfolding iterate whole answer had perform closed fold counts finished reported
         record-comes m answers p h = go (act p m) refl
           where
@@ -277,28 +277,28 @@ module _ {M : Type 0} where
                 (suc n, strips-left m answers p (suc n) f z e h n 0 (omega arith), reports-left m answers p (suc n) f z e h steady n 0 (omega arith))
 
         -- n records in turn, and the first of them with a zero
-        unfoldable pub recordsFrom : ℕ → State M → State M
-        recordsFrom zero st = st
-        recordsFrom (suc n) st = recordsFrom n (recordDone st.arrays st.answers st.p)
+        unfoldable pub records_from : ℕ → State M → State M
+        records_from zero st = st
+        records_from (suc n) st = records_from n (record_done st.arrays st.answers st.p)
 
-        unfoldable pub reportsFrom : ℕ → State M → ℤ
-        reportsFrom zero st = none
-        reportsFrom (suc n) st =
-            let rest = reportsFrom n (recordDone st.arrays st.answers st.p) in
+        unfoldable pub reports_from : ℕ → State M → ℤ
+        reports_from zero st = none
+        reports_from (suc n) st =
+            let rest = reports_from n (record_done st.arrays st.answers st.p) in
             earlier (report (had (act st.p st.arrays) st.arrays) st.p) rest
 
-        records-cursor : (n : ℕ) (st : State M) → (recordsFrom n st).p ≡ st.p + n
-        unfolding recordsFrom
+        records-cursor : (n : ℕ) (st : State M) → (records_from n st).p ≡ st.p + n
+        unfolding records_from
         records-cursor zero st = sym (add-zero st.p)
-        records-cursor (suc n) st = records-cursor n (recordDone st.arrays st.answers st.p) ∙ omega arith
+        records-cursor (suc n) st = records-cursor n (record_done st.arrays st.answers st.p) ∙ omega arith
 
         records-come : (n : ℕ) (m : M) (answers : List ℤ) (p : ℕ) → p + n ≡ count
-            → (k : ℕ) × (iterate count act k (at m answers p 0) ≡ recordsFrom n (at m answers p 0)) × (reported count act k (at m answers p 0) ≡ reportsFrom n (at m answers p 0))
-        unfolding recordsFrom reportsFrom iterate reported
+            → (k : ℕ) × (iterate count act k (at m answers p 0) ≡ records_from n (at m answers p 0)) × (reported count act k (at m answers p 0) ≡ reports_from n (at m answers p 0))
+        unfolding records_from reports_from iterate reported
         records-come zero m answers p h = (0, refl, refl)
         records-come (suc n) m answers p h =
             let first = record-comes m answers p (omega arith) in
-            let next = recordDone m answers p in
+            let next = record_done m answers p in
             let rest = records-come n next.arrays next.answers (suc p) (omega arith) in (
               first.0 + rest.0,
               iterate-add first.0 rest.0 (at m answers p 0) ∙ ap (iterate count act rest.0) first.1 ∙ rest.1,
@@ -307,17 +307,17 @@ module _ {M : Type 0} where
 
         -- "The finish of a sheet is the state in which p equals the count."
         abbrev pub finish : M → List ℤ → State M
-        finish m answers = recordsFrom count (at m answers 0 0)
+        finish m answers = records_from count (at m answers 0 0)
 
         pub finish-finished : (m : M) (answers : List ℤ) → (finish m answers).p ≡ count
         finish-finished m answers = records-cursor count (at m answers 0 0) ∙ zero-add count
 
-        abbrev pub finishReport : M → List ℤ → ℤ
-        finishReport m answers = reportsFrom count (at m answers 0 0)
+        abbrev pub finish_report : M → List ℤ → ℤ
+        finish_report m answers = reports_from count (at m answers 0 0)
 
         -- The machine reaches the finish,
         pub finish-reached : (m : M) (answers : List ℤ)
-            → (k : ℕ) × (iterate count act k (at m answers 0 0) ≡ finish m answers) × (reported count act k (at m answers 0 0) ≡ finishReport m answers)
+            → (k : ℕ) × (iterate count act k (at m answers 0 0) ≡ finish m answers) × (reported count act k (at m answers 0 0) ≡ finish_report m answers)
         finish-reached m answers = records-come count m answers 0 (zero-add count)
 
         -- and whenever it has finished it is there.
@@ -331,7 +331,7 @@ module _ {M : Type 0} where
             ∙ iterate-finished n (finish m answers) (finish-finished m answers)
 
         -- with the first record that has a zero as its report.
-        pub finish-reports : (m : M) (answers : List ℤ) (n : ℕ) → (iterate count act n (at m answers 0 0)).p ≡ count → reported count act n (at m answers 0 0) ≡ finishReport m answers
+        pub finish-reports : (m : M) (answers : List ℤ) (n : ℕ) → (iterate count act n (at m answers 0 0)).p ≡ count → reported count act n (at m answers 0 0) ≡ finish_report m answers
         unfolding finished
         finish-reports m answers n h =
             let to = finish-reached m answers in
@@ -349,23 +349,23 @@ SameRecords {M} count act act' = (p : ℕ) → p < count → (m : M) → (whole 
 
 module _ {M : Type 0} (count : ℕ) (act act' : ℕ → M → Act M) (stable : Stable act) (stable' : Stable act') (steady : Steady act) (steady' : Steady act')
     (positive : Positive act) (positive' : Positive act') (same : SameRecords count act act') where
-  same-done : (st : State M) → st.p < count → recordDone count act stable st.arrays st.answers st.p ≡ recordDone count act' stable' st.arrays st.answers st.p
+  same-done : (st : State M) → st.p < count → record_done count act stable st.arrays st.answers st.p ≡ record_done count act' stable' st.arrays st.answers st.p
   same-done st h =
       let e = same st.p h st.arrays in
       λ i. record { arrays = e.0 i; answers = set st.answers st.p (pos (e.1 i)); p = suc st.p; s = 0 }
 
   same_from : (n : ℕ) (st : State M) → st.p + n ≡ count
-      → (recordsFrom count act stable steady positive n st ≡ recordsFrom count act' stable' steady' positive' n st)
-      × (reportsFrom count act stable steady positive n st ≡ reportsFrom count act' stable' steady' positive' n st)
-  unfolding recordsFrom reportsFrom
+      → (records_from count act stable steady positive n st ≡ records_from count act' stable' steady' positive' n st)
+      × (reports_from count act stable steady positive n st ≡ reports_from count act' stable' steady' positive' n st)
+  unfolding records_from reports_from
   same_from zero st h = (refl, refl)
   same_from (suc n) st h =
       let b : st.p < count = omega arith in
-      let rest = same_from n (recordDone count act stable st.arrays st.answers st.p) (omega arith) in
+      let rest = same_from n (record_done count act stable st.arrays st.answers st.p) (omega arith) in
       let done = same-done st b in
       let zero = (same st.p b st.arrays).2 in (
-        rest.0 ∙ ap (recordsFrom count act' stable' steady' positive' n) done,
-        ap₂ earlier (ap (λ (z : Bool). report count act z st.p) zero) (rest.1 ∙ ap (reportsFrom count act' stable' steady' positive' n) done),
+        rest.0 ∙ ap (records_from count act' stable' steady' positive' n) done,
+        ap₂ earlier (ap (λ (z : Bool). report count act z st.p) zero) (rest.1 ∙ ap (reports_from count act' stable' steady' positive' n) done),
       )
 
   -- Two machines whose records do the same finish alike, whatever their strips, and report the same.

@@ -21,12 +21,12 @@ use Rattle.arrays.proofs.UpdateLaws.{length-update, update-drop}
 use Rattle.arrays.proofs.EntryLaws.{only_out}
 use Rattle.arrays.proofs.PartLaws.{column-room, take_back, drop-back, among_first}
 use Rattle.definitions.specs.Storage.{needed}
-use Rattle.definitions.specs.Call.{hasM, inPlace, empty, ldOutput, shape_c, extent, writes}
+use Rattle.definitions.specs.Call.{has_m, in_place, empty, ld_output, shape_c, extent, writes}
 use Rattle.definitions.specs.Element.{strip, result}
-use Rattle.definitions.specs.Check.{negative, nat, 'N', call_of, array-A, array-B, array-C, Place, places, arrays, short, untested, bad, badWith, firstBad, badWidth}
+use Rattle.definitions.specs.Check.{negative, nat, 'N', call_of, array-A, array-B, array-C, Place, places, arrays, short, untested, bad, bad_with, first_bad, bad_width}
 use Rattle.definitions.specs.Check as Check
 use Rattle.definitions.specs.Direct as Direct
-use Rattle.definitions.specs.Many.{copied, packed, badStride, fromLast, firstNumber, refusal, item, items_of, lastArgs, many, Done}
+use Rattle.definitions.specs.Many.{copied, packed, bad_stride, from_last, first_number, refusal, item, items_of, last_args, many, Done}
 use Rattle.definitions.specs.declared.Routine.TheVariants.{Gemm}
 use Rattle.definitions.specs.declared.Args.{Args}
 use Rattle.definitions.specs.declared.Call.{Call}
@@ -41,8 +41,8 @@ use Rattle.definitions.proofs.Answers.{direct_is, alike-calls}
 
 -- "when the array ends before its last item's needed length": what an array has from its last item on is too short for a matrix with elements
 pub last-item : (len : ℕ) (stride count : ℤ) (ld : ℕ) (s : Shape) → 0 < needed ld s.rows s.cols
-    → short (fromLast len stride count) ld s ≡ ltb len ((nat count - 1) * nat stride + needed ld s.rows s.cols)
-unfolding short fromLast
+    → short (from_last len stride count) ld s ≡ ltb len ((nat count - 1) * nat stride + needed ld s.rows s.cols)
+unfolding short from_last
 last-item len stride count ld s h =
     let begin = (nat count - 1) * nat stride in
     let room = needed ld s.rows s.cols in
@@ -51,18 +51,18 @@ last-item len stride count ld s h =
     (λ e. le-ltb (len - begin) room (omega (arith, ltb-false len (begin + room) e)) ∙ sym e)
 
 -- the number is the same for all widths that are allowed
-refusal-alike : (w r w' r' : ℤ) (g : Args) (t : Items) (pack : ℕ) → badWidth w ≡ false → badWidth r ≡ false → badWidth w' ≡ false → badWidth r' ≡ false
+refusal-alike : (w r w' r' : ℤ) (g : Args) (t : Items) (pack : ℕ) → bad_width w ≡ false → bad_width r ≡ false → bad_width w' ≡ false → bad_width r' ≡ false
     → refusal w r g t pack ≡ refusal w' r' g t pack
 unfolding refusal
 refusal-alike w r w' r' g t pack hw hr hw' hr' = rw (hw, hr, hw', hr')
 
 -- where the first number is 0, all are
-all-zero : (e : ℕ) (es : List ℕ) → firstNumber (e ∷ es) ≡ 0 → (e ≡ 0) × (firstNumber es ≡ 0)
-unfolding firstNumber
+all-zero : (e : ℕ) (es : List ℕ) → first_number (e ∷ es) ≡ 0 → (e ≡ 0) × (first_number es ≡ 0)
+unfolding first_number
 all-zero e es h =
     by-test (eqb e 0)
-    (λ t. (eqb-true e 0 t, sym (if-true (eqb e 0) (firstNumber es) e t) ∙ h))
-    (λ t. absurd (eqb-false e 0 t (sym (if-false (eqb e 0) (firstNumber es) e t) ∙ h)))
+    (λ t. (eqb-true e 0 t, sym (if-true (eqb e 0) (first_number es) e t) ∙ h))
+    (λ t. absurd (eqb-false e 0 t (sym (if-false (eqb e 0) (first_number es) e t) ∙ h)))
 
 not-given : (b : Bool) (e : ℕ) → (if b then suc e else 0) ≡ 0 → b ≡ false
 not-given true e h = absurd (omega arith)
@@ -70,14 +70,14 @@ not-given false e h = refl
 
 -- What an accepted call satisfies: allowed widths, no bad argument, a C stride of at least the needed length of C, and room in the pack area for what is copied.
 pub record Accepted (w r : ℤ) (g : Args) (t : Items) (pack : ℕ) : Type 0 where
-  pub widths : (badWidth w || badWidth r) ≡ false
-  pub none-bad : firstBad g (places g.routine) ≡ 0
+  pub widths : (bad_width w || bad_width r) ≡ false
+  pub none-bad : first_bad g (places g.routine) ≡ 0
   pub stride : Room (nat t.stridec) (call_of g).ldc (shape_c (call_of g).routine (call_of g))
-  pub no-array-bad : 0 < nat t.count → firstBad g (arrays g.routine) ≡ 0
+  pub no-array-bad : 0 < nat t.count → first_bad g (arrays g.routine) ≡ 0
   pub room : copied (call_of g) (nat t.count) ≤ pack
 
 pub when-accepted : (w r : ℤ) (g : Args) (t : Items) (pack : ℕ) → refusal w r g t pack ≡ 0 → Accepted w r g t pack
-unfolding refusal badStride short
+unfolding refusal bad_stride short
 when-accepted w r g t pack h =
     let places-on = all-zero _ _ h in
     let count-on = all-zero _ _ places-on.1 in
@@ -95,12 +95,12 @@ when-accepted w r g t pack h =
 -- ---- an item's arrays are as long as those of the last one, or longer
 
 -- two lists of arguments none of which is bad, one after the other
-pub none-in-both : (g : Args) (ps qs : List Place) → firstBad g ps ≡ 0 → firstBad g qs ≡ 0 → firstBad g (ps ++ qs) ≡ 0
-unfolding firstBad
+pub none-in-both : (g : Args) (ps qs : List Place) → first_bad g ps ≡ 0 → first_bad g qs ≡ 0 → first_bad g (ps ++ qs) ≡ 0
+unfolding first_bad
 none-in-both g [] qs h k = k
 none-in-both g (p ∷ ps) qs h k = go (bad g p.argument) h (λ e. none-in-both g ps qs e k)
   where
-    go : (b : Bool) → (if b then p.place else firstBad g ps) ≡ 0 → (firstBad g ps ≡ 0 → firstBad g (ps ++ qs) ≡ 0) → (if b then p.place else firstBad g (ps ++ qs)) ≡ 0
+    go : (b : Bool) → (if b then p.place else first_bad g ps) ≡ 0 → (first_bad g ps ≡ 0 → first_bad g (ps ++ qs) ≡ 0) → (if b then p.place else first_bad g (ps ++ qs)) ≡ 0
     go true e f = e
     go false e f = f e
 
@@ -111,8 +111,8 @@ still-long true len more ld s h k = refl
 still-long false len more ld s h k = le-ltb more _ (omega (arith, ltb-false len _ k))
 
 -- an array has at least as many elements from any item on as from the last
-from-item : (stride count : ℤ) (i : ℕ) (l : List Float) → i < nat count → fromLast (length l) stride count ≤ length (drop (i * nat stride) l)
-unfolding fromLast
+from-item : (stride count : ℤ) (i : ℕ) (l : List Float) → i < nat count → from_last (length l) stride count ≤ length (drop (i * nat stride) l)
+unfolding from_last
 from-item stride count i l h =
     let early : i ≤ nat count - 1 = omega arith in
     rw length-drop (omega (arith, mul-le-mul_right (nat stride) early))
@@ -120,10 +120,10 @@ from-item stride count i l h =
 -- ---- what a direct call leaves as it was
 
 -- a strip changes nothing from the output's needed length on
-strip-drop : (c : Call) (a b : List Float) (from to n : ℕ) (out : List Float) → needed (ldOutput c) c.m c.n ≤ n → drop n (strip c a b from to out) ≡ drop n out
+strip-drop : (c : Call) (a b : List Float) (from to n : ℕ) (out : List Float) → needed (ld_output c) c.m c.n ≤ n → drop n (strip c a b from to out) ≡ drop n out
 unfolding strip entries
 strip-drop c a b from to n out h =
-    let ld = ldOutput c in
+    let ld = ld_output c in
     update-drop n _ out
     (λ p behind x.
     only_out (writes c from to) _ (p % ld) (p / ld) x
@@ -195,20 +195,20 @@ module _ (transb m n k : ℤ) (alpha : Float) (a : List Float) (lda : ℤ) (b : 
   call w r = many transb m n k alpha a lda b ldb strideb beta c ldc stridec items pack w r
 
   abbrev last : Args
-  last = lastArgs transb m n k alpha (length a) lda (length b) ldb strideb beta (length c) ldc stridec items
+  last = last_args transb m n k alpha (length a) lda (length b) ldb strideb beta (length c) ldc stridec items
 
   abbrev layout : Items
   layout = items_of items strideb stridec
 
   abbrev args : List Float → List Float → Args
-  args x y = Direct.gemmArgs (pos 'N') transb m n k alpha (length a) lda (length x) ldb beta (length y) ldc
+  args x y = Direct.gemm_args (pos 'N') transb m n k alpha (length a) lda (length x) ldb beta (length y) ldc
 
   -- GEMM with x for its B and y for its C
   abbrev gemm : ℤ → ℤ → List Float → List Float → Direct.Done
   gemm w r x y = Direct.gemm (pos 'N') transb m n k alpha a lda x ldb beta y ldc w r
 
   -- Two calls that are alike except in strip widths and block sizes, each 0 to 64, end alike.
-  pub alike-many : (w r w' r' : ℤ) → badWidth w ≡ false → badWidth r ≡ false → badWidth w' ≡ false → badWidth r' ≡ false → call w r ≡ call w' r'
+  pub alike-many : (w r w' r' : ℤ) → bad_width w ≡ false → bad_width r ≡ false → bad_width w' ≡ false → bad_width r' ≡ false → call w r ≡ call w' r'
   unfolding many Direct.gemm
   alike-many w r w' r' hw hr hw' hr' =
       let number = refusal-alike w r w' r' last layout (length pack) hw hr hw' hr' in
@@ -229,7 +229,7 @@ module _ (transb m n k : ℤ) (alpha : Float) (a : List Float) (lda : ℤ) (b : 
     same_length x y = done-keeps length w r (args x y) a x y (length-update _ y)
 
     rest-kept : (x y : List Float) → drop (nat stridec) (gemm w r x y).array ≡ drop (nat stridec) y
-    unfolding Direct.gemm result call_of hasM ldOutput inPlace shape_c
+    unfolding Direct.gemm result call_of has_m ld_output in_place shape_c
     rest-kept x y =
         done-keeps (λ l. drop (nat stridec) l) w r (args x y) a x y
         (strip-drop (call_of (args x y)) a x 0 (extent (call_of (args x y))) (nat stridec) y (when-accepted w r last layout (length pack) accepted).stride)
@@ -252,14 +252,14 @@ module _ (transb m n k : ℤ) (alpha : Float) (a : List Float) (lda : ℤ) (b : 
         ∙ items-rest (λ x y. (gemm w r x y).array) (nat strideb) (nat stridec) b same_length rest-kept c (nat items)
 
     -- a GEMM whose arrays have at least what they have from the last item on is accepted
-    accepts : (x y : List Float) → 0 < nat items → fromLast (length b) strideb items ≤ length x → fromLast (length c) stridec items ≤ length y
+    accepts : (x y : List Float) → 0 < nat items → from_last (length b) strideb items ≤ length x → from_last (length c) stridec items ≤ length y
         → Check.refusal w r (args x y) ≡ 0
-    unfolding Check.refusal places arrays firstBad bad badWith call_of inPlace has place_in column
+    unfolding Check.refusal places arrays first_bad bad bad_with call_of in_place has place_in column
     accepts x y some hx hy =
         let own = args x y in
         let ok = when-accepted w r last layout (length pack) accepted in
         let none = none-in-both last (places Gemm) (arrays Gemm) ok.none-bad (ok.no-array-bad some) in
-        if-false (badWidth w || badWidth r) 30 _ ok.widths
+        if-false (bad_width w || bad_width r) 30 _ ok.widths
         ∙ none-in-both own (places Gemm) (arrays Gemm) ok.none-bad
         (if-false (bad own array-A) 7 _ (passed last array-A Gemm none refl)
         ∙ if-false (bad own array-B) 9 _ (still-long (untested (call_of own)) _ _ _ _ hx (passed last array-B Gemm none refl))

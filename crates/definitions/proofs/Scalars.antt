@@ -14,7 +14,7 @@ use lib.Pow.{pow-lt, pow-add}
 use borrow.Author.Tests.{eqb-true, ne_eqb}
 use Rattle.arrays.proofs.Tests.{and_left, and_right, if-true, if-false, by-test}
 use Rattle.floats.specs.Operations.{0f, 1f}
-use Rattle.definitions.specs.Number.{scalar, isZero, factor}
+use Rattle.definitions.specs.Number.{scalar, is_zero, factor}
 use Rattle.definitions.specs.declared.Scalar.TheVariants.{Zero, One}
 
 -- the sign of a number that equals 1
@@ -49,11 +49,11 @@ equals-one (inf s) f h = absurd (true≢false (sym h))
 equals-one (fin s m e) f h = one-is s m e f h
 
 -- Of any f64 but the two zeros.
-pub factor-is : (x : Float) → T (fits binary64 x) → isZero (scalar x) ≡ false → factor (scalar x) ≡ x
+pub factor-is : (x : Float) → T (fits binary64 x) → is_zero (scalar x) ≡ false → factor (scalar x) ≡ x
 unfolding scalar factor
 factor-is x f h =
     by-test (eq x 0f)
-    (λ z. absurd (true≢false (sym (ap isZero (if-true (eq x 0f) Zero _ z)) ∙ h)))
+    (λ z. absurd (true≢false (sym (ap is_zero (if-true (eq x 0f) Zero _ z)) ∙ h)))
     (λ z. by-test (eq x 1f)
     (λ o. ap factor (if-false (eq x 0f) Zero _ z ∙ if-true (eq x 1f) One _ o) ∙ sym (equals-one x f o))
     (λ o. ap factor (if-false (eq x 0f) Zero _ z ∙ if-false (eq x 1f) One _ o)))

@@ -16,8 +16,8 @@ use Rattle.arrays.proofs.Tests.{and_left, and_right, if-true, if-false, by-test}
 use Rattle.arrays.proofs.UpdateLaws.{update-then}
 use Rattle.arrays.proofs.EntryLaws.{entry_kept, entries-keep, only_same, only-join, only_out}
 use Rattle.definitions.specs.Storage.{stored}
-use Rattle.definitions.specs.Call.{bySide, inPlace, empty, order, ldOutput, inOutput, cutsRows, extent, strips, cut, writes}
-use Rattle.definitions.specs.Element.{value, arrayB, strip, result}
+use Rattle.definitions.specs.Call.{by_side, in_place, empty, order, ld_output, in_output, cuts_rows, extent, strips, cut, writes}
+use Rattle.definitions.specs.Element.{value, array_b, strip, result}
 use Rattle.definitions.specs.declared.Routine.{Routine}
 use Rattle.definitions.specs.declared.Routine.TheVariants.{Gemm, Symm, Syrk, Syr2k, Trmm, Trsm}
 use Rattle.definitions.specs.declared.Side.{Side}
@@ -35,10 +35,10 @@ pub record Written (c : Call) (from to i j : ℕ) : Type 0 where
   pub below-to : cut c i j < to
 
 pub written : (c : Call) (from to i j : ℕ) → writes c from to i j ≡ true → Written c from to i j
-unfolding writes inOutput
+unfolding writes in_output
 written c from to i j w =
-    let sizes = and_left (ltb i c.m && ltb j c.n) _ (and_left (inOutput c i j) _ w) in
-    let range = and_right (inOutput c i j) (leb from (cut c i j) && ltb (cut c i j) to) w in
+    let sizes = and_left (ltb i c.m && ltb j c.n) _ (and_left (in_output c i j) _ w) in
+    let range = and_right (in_output c i j) (leb from (cut c i j) && ltb (cut c i j) to) w in
     record {
       row = ltb-true _ _ (and_left (ltb i c.m) _ sizes);
       column = ltb-true _ _ (and_right (ltb i c.m) _ sizes);
@@ -65,74 +65,74 @@ range-join true x from mid to h k =
 -- ---- two strips in turn
 
 -- where TRMM and TRSM read B, a strip below mid has left it as it was
-cut-is : (f : Routine) (s : Side) (i j : ℕ) → inPlace f ≡ true → (if cutsRows f s then i else j) ≡ bySide s j i
-unfolding cutsRows bySide
+cut-is : (f : Routine) (s : Side) (i j : ℕ) → in_place f ≡ true → (if cuts_rows f s then i else j) ≡ by_side s j i
+unfolding cuts_rows by_side
 cut-is f Left i j h = rw h
 cut-is f Right i j h = rw h
 
-in_place : (c : Call) (b out : List Float) → inPlace c.routine ≡ true → arrayB c b out ≡ out
-unfolding arrayB
-in_place c b out h = if-true (inPlace c.routine) out b h
+in_place_lem : (c : Call) (b out : List Float) → in_place c.routine ≡ true → array_b c b out ≡ out
+unfolding array_b
+in_place_lem c b out h = if-true (in_place c.routine) out b h
 
-not-in-place : (c : Call) (b out : List Float) → inPlace c.routine ≡ false → arrayB c b out ≡ b
-unfolding arrayB
-not-in-place c b out h = if-false (inPlace c.routine) out b h
+not-in-place : (c : Call) (b out : List Float) → in_place c.routine ≡ false → array_b c b out ≡ b
+unfolding array_b
+not-in-place c b out h = if-false (in_place c.routine) out b h
 
-module _ (c : Call) (a b out : List Float) (from mid : ℕ) (room : inPlace c.routine ≡ true → c.m ≤ c.ldb) where
+module _ (c : Call) (a b out : List Float) (from mid : ℕ) (room : in_place c.routine ≡ true → c.m ≤ c.ldb) where
   abbrev next : List Float
   next = strip c a b from mid out
 
-  line_kept : (s : Side) (i j l : ℕ) → c.side ≡ s → inPlace c.routine ≡ true → i < c.m → mid ≤ bySide s j i → l < bySide s c.m c.n
+  line_kept : (s : Side) (i j l : ℕ) → c.side ≡ s → in_place c.routine ≡ true → i < c.m → mid ≤ by_side s j i → l < by_side s c.m c.n
       → line s (stored nan next c.ldb) i j l ≡ line s (stored nan out c.ldb) i j l
-  unfolding bySide stored strip ldOutput cut
+  unfolding by_side stored strip ld_output cut
   line_kept Left i j l e p hi hm hl =
       rw p
       (entry_kept nan c.ldb _ out l j (let k = room p in omega (arith, k))
       (λ x. only_out (writes c from mid) _ l j x
-      (not_written c from mid l j (λ w. let k = cut-is c.routine c.side l j p ∙ ap (λ (t : Side). bySide t j l) e in omega (arith, w.below-to, k)))))
+      (not_written c from mid l j (λ w. let k = cut-is c.routine c.side l j p ∙ ap (λ (t : Side). by_side t j l) e in omega (arith, w.below-to, k)))))
   line_kept Right i j l e p hi hm hl =
       rw p
       (entry_kept nan c.ldb _ out i l (let k = room p in omega (arith, k))
       (λ x. only_out (writes c from mid) _ i l x
-      (not_written c from mid i l (λ w. let k = cut-is c.routine c.side i l p ∙ ap (λ (t : Side). bySide t l i) e in omega (arith, w.below-to, k)))))
+      (not_written c from mid i l (λ w. let k = cut-is c.routine c.side i l p ∙ ap (λ (t : Side). by_side t l i) e in omega (arith, w.below-to, k)))))
 
-  lines-kept : (i j : ℕ) → inPlace c.routine ≡ true → i < c.m → mid ≤ cut c i j → (l : ℕ) → l < order c
+  lines-kept : (i j : ℕ) → in_place c.routine ≡ true → i < c.m → mid ≤ cut c i j → (l : ℕ) → l < order c
       → line c.side (stored nan next c.ldb) i j l ≡ line c.side (stored nan out c.ldb) i j l
   unfolding cut order
   lines-kept i j p hi hm l hl = line_kept c.side i j l refl p hi (subst (λ (k : ℕ). mid ≤ k) (cut-is c.routine c.side i j p) hm) hl
 
-  lines_same : (i j : ℕ) → inPlace c.routine ≡ true → i < c.m → mid ≤ cut c i j → (l : ℕ) → l < order c
-      → line c.side (stored nan (arrayB c b next) c.ldb) i j l ≡ line c.side (stored nan (arrayB c b out) c.ldb) i j l
+  lines_same : (i j : ℕ) → in_place c.routine ≡ true → i < c.m → mid ≤ cut c i j → (l : ℕ) → l < order c
+      → line c.side (stored nan (array_b c b next) c.ldb) i j l ≡ line c.side (stored nan (array_b c b out) c.ldb) i j l
   lines_same i j p hi hm l hl =
-      ap (λ (xs : List Float). line c.side (stored nan xs c.ldb) i j l) (in_place c b next p)
+      ap (λ (xs : List Float). line c.side (stored nan xs c.ldb) i j l) (in_place_lem c b next p)
       ∙ lines-kept i j p hi hm l hl
-      ∙ ap (λ (xs : List Float). line c.side (stored nan xs c.ldb) i j l) (sym (in_place c b out p))
+      ∙ ap (λ (xs : List Float). line c.side (stored nan xs c.ldb) i j l) (sym (in_place_lem c b out p))
 
   value-kept : (f : Routine) → c.routine ≡ f → (i j : ℕ) (x : Float) → i < c.m → j < c.n → mid ≤ cut c i j
-      → value f c a (arrayB c b next) i j x ≡ value f c a (arrayB c b out) i j x
-  unfolding value inPlace
-  value-kept Gemm e i j x hi hj hm = ap (λ (xs : List Float). value Gemm c a xs i j x) (not-in-place c b next (ap inPlace e) ∙ sym (not-in-place c b out (ap inPlace e)))
-  value-kept Symm e i j x hi hj hm = ap (λ (xs : List Float). value Symm c a xs i j x) (not-in-place c b next (ap inPlace e) ∙ sym (not-in-place c b out (ap inPlace e)))
+      → value f c a (array_b c b next) i j x ≡ value f c a (array_b c b out) i j x
+  unfolding value in_place
+  value-kept Gemm e i j x hi hj hm = ap (λ (xs : List Float). value Gemm c a xs i j x) (not-in-place c b next (ap in_place e) ∙ sym (not-in-place c b out (ap in_place e)))
+  value-kept Symm e i j x hi hj hm = ap (λ (xs : List Float). value Symm c a xs i j x) (not-in-place c b next (ap in_place e) ∙ sym (not-in-place c b out (ap in_place e)))
   value-kept Syrk e i j x hi hj hm = refl
-  value-kept Syr2k e i j x hi hj hm = ap (λ (xs : List Float). value Syr2k c a xs i j x) (not-in-place c b next (ap inPlace e) ∙ sym (not-in-place c b out (ap inPlace e)))
-  value-kept Trmm e i j x hi hj hm = trmm-same c _ _ _ i j x (lines_same i j (ap inPlace e) hi hm)
-  value-kept Trsm e i j x hi hj hm = trsm-same c _ _ _ i j x hi hj (lines_same i j (ap inPlace e) hi hm)
+  value-kept Syr2k e i j x hi hj hm = ap (λ (xs : List Float). value Syr2k c a xs i j x) (not-in-place c b next (ap in_place e) ∙ sym (not-in-place c b out (ap in_place e)))
+  value-kept Trmm e i j x hi hj hm = trmm-same c _ _ _ i j x (lines_same i j (ap in_place e) hi hm)
+  value-kept Trsm e i j x hi hj hm = trsm-same c _ _ _ i j x hi hj (lines_same i j (ap in_place e) hi hm)
 
   pub strip-join : (to : ℕ) → from ≤ mid → mid ≤ to → strip c a b mid to next ≡ strip c a b from to out
   unfolding strip entries writes
   strip-join to h k =
       update-then _ _ _ out
       (λ p _ x.
-      let i : ℕ = p % ldOutput c in
-      let j : ℕ = p / ldOutput c in
-      only_same (writes c mid to) _ i j _ (value c.routine c a (arrayB c b out))
+      let i : ℕ = p % ld_output c in
+      let j : ℕ = p / ld_output c in
+      only_same (writes c mid to) _ i j _ (value c.routine c a (array_b c b out))
       (λ w. let r = written c mid to i j w in value-kept c.routine refl i j _ r.row r.column r.from_on)
-      ∙ only-join (writes c from mid) (writes c mid to) (writes c from to) (value c.routine c a (arrayB c b out)) i j x
+      ∙ only-join (writes c from mid) (writes c mid to) (writes c from to) (value c.routine c a (array_b c b out)) i j x
       (λ w. let r = written c from mid i j w in not_written c mid to i j (λ v. omega (arith, r.below-to, v.from_on)))
       (join i j))
     where
       join : (i j : ℕ) → writes c from to i j ≡ (if writes c from mid i j then true else writes c mid to i j)
-      join i j = range-join (inOutput c i j) (cut c i j) from mid to h k
+      join i j = range-join (in_output c i j) (cut c i j) from mid to h k
 
 -- ---- all strips
 
@@ -140,7 +140,7 @@ module _ (c : Call) (a b out : List Float) (from mid : ℕ) (room : inPlace c.ro
 pub strip-empty : (c : Call) (a b : List Float) (from to : ℕ) (out : List Float) → empty c ≡ true → strip c a b from to out ≡ out
 unfolding strip empty
 strip-empty c a b from to out h =
-    entries-keep (ldOutput c) _ out (λ i j x. only_out (writes c from to) _ i j x (not_written c from to i j (λ w. none w)))
+    entries-keep (ld_output c) _ out (λ i j x. only_out (writes c from to) _ i j x (not_written c from to i j (λ w. none w)))
   where
     none : {i j : ℕ} → Written c from to i j → ⊥
     none w =
@@ -151,13 +151,13 @@ strip-empty c a b from to out h =
 pub strip-none : (c : Call) (a b : List Float) (at : ℕ) (out : List Float) → strip c a b at at out ≡ out
 unfolding strip
 strip-none c a b at out =
-    entries-keep (ldOutput c) _ out
+    entries-keep (ld_output c) _ out
     (λ i j x. only_out (writes c at at) _ i j x (not_written c at at i j (λ w. omega (arith, w.from_on, w.below-to))))
 
 -- what a routine writes is below the extent
 below-extent : (c : Call) (from to i j : ℕ) → Written c from to i j → cut c i j < extent c
 unfolding cut extent
-below-extent c from to i j w = go (cutsRows c.routine c.side)
+below-extent c from to i j w = go (cuts_rows c.routine c.side)
   where
     go : (b : Bool) → (if b then i else j) < (if b then c.m else c.n)
     go true = w.row
@@ -166,7 +166,7 @@ below-extent c from to i j w = go (cutsRows c.routine c.side)
 strip-beyond : (c : Call) (a b : List Float) (from to : ℕ) (out : List Float) → extent c ≤ from → strip c a b from to out ≡ out
 unfolding strip
 strip-beyond c a b from to out h =
-    entries-keep (ldOutput c) _ out
+    entries-keep (ld_output c) _ out
     (λ i j x. only_out (writes c from to) _ i j x (not_written c from to i j (λ w. omega (arith, h, w.from_on, below-extent c from to i j w))))
 
 -- the strips of width w below strip n, one after the other
@@ -190,11 +190,11 @@ strip-begins c w s wide some h =
     omega (arith, mul-le-mul_right w below, suc-mul s w)
 
 -- and a strip that is cut off at the extent is the whole of it
-pub strip-clipped : (c : Call) (a b : List Float) (from to : ℕ) (out : List Float) → (inPlace c.routine ≡ true → c.m ≤ c.ldb)
+pub strip-clipped : (c : Call) (a b : List Float) (from to : ℕ) (out : List Float) → (in_place c.routine ≡ true → c.m ≤ c.ldb)
     → from ≤ extent c → extent c ≤ to → strip c a b from (extent c) out ≡ strip c a b from to out
 strip-clipped c a b from to out room h k = sym (strip-beyond c a b (extent c) to _ (omega arith)) ∙ strip-join c a b out from (extent c) room to h k
 
-module _ (c : Call) (a b : List Float) (w : ℕ) (wide : 0 < w) (room : inPlace c.routine ≡ true → c.m ≤ c.ldb) (out : List Float) where
+module _ (c : Call) (a b : List Float) (w : ℕ) (wide : 0 < w) (room : in_place c.routine ≡ true → c.m ≤ c.ldb) (out : List Float) where
   some-strips : (n : ℕ) → in_turn c a b w n out ≡ strip c a b 0 (n * w) out
   unfolding fold
   some-strips zero = sym (ap (λ (k : ℕ). strip c a b 0 k out) (zero-mul w) ∙ strip-none c a b 0 out)
@@ -225,7 +225,7 @@ strips-positive c w wide =
     (λ e. rw e (omega arith))
     (λ e. by-test (eqb c.n 0)
     (λ f. rw (e, f) (omega arith))
-    (λ f. rw (e, f) (some ((extent c + w - 1) / w) (extent c) (ceil (extent c) w wide) (positive (cutsRows c.routine c.side) e f))))
+    (λ f. rw (e, f) (some ((extent c + w - 1) / w) (extent c) (ceil (extent c) w wide) (positive (cuts_rows c.routine c.side) e f))))
   where
     some : (q d : ℕ) → d ≤ q * w → 0 < d → 0 < q
     some zero d h k = omega (arith, zero-mul w)

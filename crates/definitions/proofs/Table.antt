@@ -8,12 +8,12 @@ use lib.Dec.{T}
 use lib.IntN.{ℤ, pos, negsuc}
 use lib.ListN.{replicate}
 use lib.Ieee.{Float, nan, inf, binary64, add, mul, div, neg, eq, of_int}
-use Rattle.arrays.specs.Update.{updateFrom, entries, only}
+use Rattle.arrays.specs.Update.{update_from, entries, only}
 use Rattle.arrays.specs.Fold.{fold, among, solved}
 use Rattle.arrays.specs.Search.{lowest, none, answer, earlier}
 use Rattle.floats.specs.Operations.{◌⊘◌, 0f, 1f}
 use Rattle.definitions.specs.Number.{scalar, factor, start}
-use Rattle.definitions.specs.Storage.{stored, transposed, op, inside, opTriangle, mirrored, withDiagonal, needed}
+use Rattle.definitions.specs.Storage.{stored, transposed, op, inside, op_triangle, mirrored, with_diagonal, needed}
 use Rattle.definitions.specs.Call as Call
 use Rattle.definitions.specs.Element as Element
 use Rattle.definitions.specs.Check as Check
@@ -25,7 +25,7 @@ use Rattle.definitions.specs.Sheet as Sheet
 use Rattle.definitions.specs.Sheet.{Arrays}
 use Rattle.definitions.specs.Run as Run
 use Rattle.definitions.specs.Run.{Ran, ran, runs, last}
-use Rattle.definitions.proofs.Same.{sameInteger, sameFloats, same-integer, same-floats}
+use Rattle.definitions.proofs.Same.{same_integer, same_floats, same-integer, same-floats}
 
 -- "lists are column by column; each leading dimension is its matrix's rows; P = 9007199254740992"
 num : ℕ → Float
@@ -41,7 +41,7 @@ P = 9007199254740992
 gives : List Float → Done
 gives v = record { number = pos 0; array = v }
 
-gives-is : (d : Done) (v : List Float) → T (sameInteger d.number (pos 0)) → T (sameFloats d.array v) → d ≡ gives v
+gives-is : (d : Done) (v : List Float) → T (same_integer d.number (pos 0)) → T (same_floats d.array v) → d ≡ gives v
 unfolding gives
 gives-is d v t u = let p = same-integer d.number (pos 0) t in let q = same-floats d.array v u in λ i. record { number = p i; array = q i }
 
@@ -49,7 +49,7 @@ gives-is d v t u = let p = same-integer d.number (pos 0) t in let q = same-float
 solves : List Float → Solved
 solves v = record { end = record { number = pos 0; zero = none }; array = v }
 
-solves-is : (d : Solved) (v : List Float) → T (sameInteger d.end.number (pos 0)) → T (sameInteger d.end.zero none) → T (sameFloats d.array v) → d ≡ solves v
+solves-is : (d : Solved) (v : List Float) → T (same_integer d.end.number (pos 0)) → T (same_integer d.end.zero none) → T (same_floats d.array v) → d ≡ solves v
 unfolding solves
 solves-is d v t z u =
     let p = same-integer d.end.number (pos 0) t in
@@ -58,8 +58,8 @@ solves-is d v t z u =
     λ i. record { end = record { number = p i; zero = q i }; array = r i }
 
 -- GEMM, neither transposed
-gemmNN : ℕ → ℕ → ℕ → Float → List Float → List Float → Float → List Float → Done
-gemmNN m n k alpha a b beta c =
+gemm_nn : ℕ → ℕ → ℕ → Float → List Float → List Float → Float → List Float → Done
+gemm_nn m n k alpha a b beta c =
     gemm (pos 'N') (pos 'N') (pos m) (pos n) (pos k) alpha a (pos m) b (pos k) beta c (pos m) (pos 64) (pos 64)
 
 -- "sheet of one GEMM, m = k = 1, n 3, w 1, all else sound", with n and w as given: A is X, B is Y, C is Z
@@ -84,66 +84,66 @@ direct : ℤ → ℤ → ℤ → ℤ → List Float → Done
 direct transa m lda w c = gemm transa (pos 'N') m (pos 1) (pos 1) 1f (vec (1 ∷ 1 ∷ [])) lda (vec (1 ∷ [])) (pos 1) 0f c (pos 2) w (pos 64)
 
 -- A sheet of one record of the routine, with A's array and offset, and C's array; its matrices are 1 by 1.
-recordOf : ℕ → ℕ → ℤ → ℕ → Sheet.Sheet
-recordOf routine arrayA offset arrayC = record {
-  words = map pos (routine ∷ 0 ∷ 'L' ∷ 'N' ∷ 'N' ∷ 0 ∷ 1 ∷ 1 ∷ 1 ∷ arrayA ∷ []) ++ (offset ∷ map pos (1 ∷ 1 ∷ 0 ∷ 1 ∷ arrayC ∷ 0 ∷ 1 ∷ 64 ∷ 64 ∷ 0 ∷ 1 ∷ []));
+record_of : ℕ → ℕ → ℤ → ℕ → Sheet.Sheet
+record_of routine array_a offset array_c = record {
+  words = map pos (routine ∷ 0 ∷ 'L' ∷ 'N' ∷ 'N' ∷ 0 ∷ 1 ∷ 1 ∷ 1 ∷ array_a ∷ []) ++ (offset ∷ map pos (1 ∷ 1 ∷ 0 ∷ 1 ∷ array_c ∷ 0 ∷ 1 ∷ 64 ∷ 64 ∷ 0 ∷ 1 ∷ []));
   scalars = 1f ∷ 0f ∷ [];
 }
 
 -- What a solve of order 2, side L and not transposed, reports: uplo, diag, columns, alpha and A.
-zeroIn : ℕ → ℕ → ℕ → Float → List Float → ℤ
-zeroIn uplo diag n alpha a =
+zero_in : ℕ → ℕ → ℕ → Float → List Float → ℤ
+zero_in uplo diag n alpha a =
     (trsm (pos 'L') (pos uplo) (pos 'N') (pos diag) (pos 2) (pos n) alpha a (pos 2) (vec (1 ∷ 1 ∷ [])) (pos 2) (pos 64) (pos 64)).end.zero
 
 -- A sheet of two solves of order 1 in strips of one column, the first of one column with B of leading dimension ldb, the second of two. A is X, which is zero.
-solveWords : ℕ → ℕ → List ℕ
-solveWords n ldb = 6 ∷ 'L' ∷ 'L' ∷ 'N' ∷ 0 ∷ 'N' ∷ 1 ∷ n ∷ 0 ∷ 0 ∷ 0 ∷ 1 ∷ 1 ∷ 0 ∷ ldb ∷ 0 ∷ 0 ∷ 0 ∷ 1 ∷ 64 ∷ []
+solve_words : ℕ → ℕ → List ℕ
+solve_words n ldb = 6 ∷ 'L' ∷ 'L' ∷ 'N' ∷ 0 ∷ 'N' ∷ 1 ∷ n ∷ 0 ∷ 0 ∷ 0 ∷ 1 ∷ 1 ∷ 0 ∷ ldb ∷ 0 ∷ 0 ∷ 0 ∷ 1 ∷ 64 ∷ []
 
-zeroesOf : ℕ → List ℕ → List ℤ
-zeroesOf ldb budgets =
-    let t : Sheet.Sheet = record { words = map pos (solveWords 1 ldb ++ (solveWords 2 1 ++ (0 ∷ 2 ∷ []))); scalars = 1f ∷ 0f ∷ 1f ∷ 0f ∷ [] } in
+zeroes_of : ℕ → List ℕ → List ℤ
+zeroes_of ldb budgets =
+    let t : Sheet.Sheet = record { words = map pos (solve_words 1 ldb ++ (solve_words 2 1 ++ (0 ∷ 2 ∷ []))); scalars = 1f ∷ 0f ∷ 1f ∷ 0f ∷ [] } in
     let l : Arrays = record { x = vec (0 ∷ []); y = vec (1 ∷ 1 ∷ []); z = [] } in
     map (λ (r : Ran). r.end.zero) (runs t budgets (ran 0 (pos 0) (pos 0) 0 none l (pos 7 ∷ pos 7 ∷ [])))
 
 -- the answers that one run leaves, and the number that it hands back
-answersOf : Sheet.Sheet → List ℤ
-answersOf t = (last (before (pos 0) (pos 0)) (runs t (1 ∷ []) (before (pos 0) (pos 0)))).answers
+answers_of : Sheet.Sheet → List ℤ
+answers_of t = (last (before (pos 0) (pos 0)) (runs t (1 ∷ []) (before (pos 0) (pos 0)))).answers
 
 number_of : Sheet.Sheet → ℤ → ℤ → List ℤ
 number_of t p s = Run.numbers (runs t (1 ∷ []) (before p s))
 
 -- Everything that the table and the examples compute with.
 abbrev opened : ℕ
-unfolding num vec P gives solves gemmNN sheet lent before cursor direct recordOf zeroIn solveWords zeroesOf answersOf number_of gemm symm syrk syr2k trmm trsm
-    Direct.done Direct.solved lowest answer earlier Check.checked Check.number Check.leaves Check.reports Check.idle Check.refusal Check.firstBad Check.places Check.arrays Check.bad Check.badWith Check.badWidth Check.width
-    Check.untested Check.short Check.badLd Check.call_of Check.is Check.side_of Check.uploOf Check.transOf Check.diagOf
-    Element.result Element.strip Element.arrayB Element.value Element.gemm Element.symm Element.syrk Element.syr2k Element.trmm Element.trsm Element.solveNext
-    Element.byZero Element.zeroOnDiagonal Element.zero_of Element.divided Element.turn Element.solvesUp Element.triangle Element.triangular Element.accumulated Element.allTerms Element.productTerm Element.term
-    Call.bySide Call.hasM Call.hasK Call.inPlace Call.empty Call.startOnly Call.storedAs Call.order Call.shapeA Call.shapeB Call.shape_c Call.ldOutput
-    Call.inTriangle Call.inOutput Call.cutsRows Call.extent Call.strips Call.cut Call.writes
-    stored transposed op inside opTriangle mirrored withDiagonal needed updateFrom entries only fold among solved scalar factor start
-    Machine.stripsOf Machine.closed Machine.perform Machine.finished Machine.step Machine.iterate Machine.made Machine.counts Machine.reported
-    Sheet.act Sheet.actBy Sheet.accepted Sheet.stripDone Sheet.width_of Sheet.recordRefusal Sheet.argsOf Sheet.badOffsets Sheet.badArrays Sheet.partLength Sheet.part
-    Sheet.lengths Sheet.withArray Sheet.array Sheet.betaOf Sheet.alphaOf Sheet.any Sheet.inputs Sheet.output Sheet.routine_of Sheet.field Sheet.records Sheet.sound
+unfolding num vec P gives solves gemm_nn sheet lent before cursor direct record_of zero_in solve_words zeroes_of answers_of number_of gemm symm syrk syr2k trmm trsm
+    Direct.done Direct.solved lowest answer earlier Check.checked Check.number Check.leaves Check.reports Check.idle Check.refusal Check.first_bad Check.places Check.arrays Check.bad Check.bad_with Check.bad_width Check.width
+    Check.untested Check.short Check.bad_ld Check.call_of Check.is Check.side_of Check.uplo_of Check.trans_of Check.diag_of
+    Element.result Element.strip Element.array_b Element.value Element.gemm Element.symm Element.syrk Element.syr2k Element.trmm Element.trsm Element.solve_next
+    Element.by_zero Element.zero_on_diagonal Element.zero_of Element.divided Element.turn Element.solves_up Element.triangle Element.triangular Element.accumulated Element.all_terms Element.product_term Element.term
+    Call.by_side Call.has_m Call.has_k Call.in_place Call.empty Call.start_only Call.stored_as Call.order Call.shape_a Call.shape_b Call.shape_c Call.ld_output
+    Call.in_triangle Call.in_output Call.cuts_rows Call.extent Call.strips Call.cut Call.writes
+    stored transposed op inside op_triangle mirrored with_diagonal needed update_from entries only fold among solved scalar factor start
+    Machine.strips_of Machine.closed Machine.perform Machine.finished Machine.step Machine.iterate Machine.made Machine.counts Machine.reported
+    Sheet.act Sheet.act_by Sheet.accepted Sheet.strip_done Sheet.width_of Sheet.record_refusal Sheet.args_of Sheet.bad_offsets Sheet.bad_arrays Sheet.part_length Sheet.part
+    Sheet.lengths Sheet.with_array Sheet.array Sheet.beta_of Sheet.alpha_of Sheet.any Sheet.inputs Sheet.output Sheet.routine_of Sheet.field Sheet.records Sheet.sound
     Sheet.count Sheet.index Sheet.word
-    Run.begin Run.after Run.stepsMade Run.zeroReported Run.tooShort Run.badCursor Run.runRefusal Run.run runs last Run.numbers
+    Run.begin Run.after Run.steps_made Run.zero_reported Run.too_short Run.bad_cursor Run.run_refusal Run.run runs last Run.numbers
     of_int add mul div neg eq
 opened = 0
 
 -- α = 1, β = 0 unless given
 table :
     -- a
-    (gemmNN 2 2 2 1f (vec (1 ∷ 3 ∷ 2 ∷ 4 ∷ [])) (vec (5 ∷ 7 ∷ 6 ∷ 8 ∷ [])) 0f (vec (0 ∷ 0 ∷ 0 ∷ 0 ∷ [])) ≡ gives (vec (19 ∷ 43 ∷ 22 ∷ 50 ∷ [])))
+    (gemm_nn 2 2 2 1f (vec (1 ∷ 3 ∷ 2 ∷ 4 ∷ [])) (vec (5 ∷ 7 ∷ 6 ∷ 8 ∷ [])) 0f (vec (0 ∷ 0 ∷ 0 ∷ 0 ∷ [])) ≡ gives (vec (19 ∷ 43 ∷ 22 ∷ 50 ∷ [])))
     -- b
-    × (gemmNN 1 1 3 1f (vec (P ∷ 1 ∷ 1 ∷ [])) (vec (1 ∷ 1 ∷ 1 ∷ [])) 0f (vec (0 ∷ [])) ≡ gives (vec (P ∷ [])))
+    × (gemm_nn 1 1 3 1f (vec (P ∷ 1 ∷ 1 ∷ [])) (vec (1 ∷ 1 ∷ 1 ∷ [])) 0f (vec (0 ∷ [])) ≡ gives (vec (P ∷ [])))
     -- c
-    × (gemmNN 1 1 3 1f (vec (1 ∷ 1 ∷ P ∷ [])) (vec (1 ∷ 1 ∷ 1 ∷ [])) 0f (vec (0 ∷ [])) ≡ gives (vec ((P + 2) ∷ [])))
+    × (gemm_nn 1 1 3 1f (vec (1 ∷ 1 ∷ P ∷ [])) (vec (1 ∷ 1 ∷ 1 ∷ [])) 0f (vec (0 ∷ [])) ≡ gives (vec ((P + 2) ∷ [])))
     -- d
-    × (gemmNN 1 1 1 1f (vec (2 ∷ [])) (vec (3 ∷ [])) 0f (nan ∷ []) ≡ gives (vec (6 ∷ [])))
+    × (gemm_nn 1 1 1 1f (vec (2 ∷ [])) (vec (3 ∷ [])) 0f (nan ∷ []) ≡ gives (vec (6 ∷ [])))
     -- e
-    × (gemmNN 1 1 1 1f (inf false ∷ []) (vec (0 ∷ [])) 0f (vec (0 ∷ [])) ≡ gives (nan ∷ []))
+    × (gemm_nn 1 1 1 1f (inf false ∷ []) (vec (0 ∷ [])) 0f (vec (0 ∷ [])) ≡ gives (nan ∷ []))
     -- f
-    × (gemmNN 1 1 1 0f (inf false ∷ []) (vec (1 ∷ [])) (num 2) (vec (3 ∷ [])) ≡ gives (vec (6 ∷ [])))
+    × (gemm_nn 1 1 1 0f (inf false ∷ []) (vec (1 ∷ [])) (num 2) (vec (3 ∷ [])) ≡ gives (vec (6 ∷ [])))
     -- g
     × (symm (pos 'L') (pos 'U') (pos 2) (pos 1) 1f (vec (1 ∷ 9 ∷ 2 ∷ 3 ∷ [])) (pos 2) (vec (1 ∷ 1 ∷ [])) (pos 2) 0f (vec (0 ∷ 0 ∷ [])) (pos 2) (pos 64) (pos 64)
     ≡ gives (vec (3 ∷ 5 ∷ [])))
@@ -200,9 +200,9 @@ numbers :
     × ((direct (pos 'N') (pos 1) (pos 1) (pos 65) (vec (0 ∷ 0 ∷ []))).number ≡ pos 30)
     -- document 02, K5: "Number 30 is left for values below 0 or above 64."
     × ((direct (pos 'N') (pos 1) (pos 1) (negsuc 0) (vec (0 ∷ 0 ∷ []))).number ≡ pos 30)
-    × (answersOf (recordOf 7 0 (pos 0) 2) ≡ pos 31 ∷ [])
-    × (answersOf (recordOf 3 0 (pos 0) 0) ≡ pos 32 ∷ [])
-    × (answersOf (recordOf 3 0 (negsuc 0) 2) ≡ pos 33 ∷ [])
+    × (answers_of (record_of 7 0 (pos 0) 2) ≡ pos 31 ∷ [])
+    × (answers_of (record_of 3 0 (pos 0) 0) ≡ pos 32 ∷ [])
+    × (answers_of (record_of 3 0 (negsuc 0) 2) ≡ pos 33 ∷ [])
     × (number_of (record { words = pos 0 ∷ []; scalars = [] }) (pos 0) (pos 0) ≡ pos 34 ∷ [])
     × (number_of (record { words = map pos (replicate 20 0) ++ (negsuc 19 ∷ pos 2 ∷ []); scalars = [] }) (pos 0) (pos 0) ≡ pos 34 ∷ [])
     × (number_of (record { words = (sheet 3 1).words; scalars = 1f ∷ [] }) (pos 0) (pos 0) ≡ pos 35 ∷ [])
@@ -212,7 +212,7 @@ numbers :
     -- and accepted ones
     × ((direct (pos 'N') (pos 0) (pos 1) (pos 64) (vec (0 ∷ 0 ∷ []))).number ≡ pos 0)
     × ((direct (pos 'N') (pos 1) (pos 1) (pos 0) (vec (0 ∷ 0 ∷ []))).number ≡ pos 0)
-    × (answersOf (recordOf 3 0 (pos 0) 2) ≡ pos 0 ∷ [])
+    × (answers_of (record_of 3 0 (pos 0) 2) ≡ pos 0 ∷ [])
     × (number_of (sheet 3 1) (pos 0) (pos 2) ≡ pos 0 ∷ [])
     × (number_of (sheet 65 0) (pos 0) (pos 1) ≡ pos 0 ∷ [])
 unfolding opened
@@ -221,18 +221,18 @@ numbers = (refl, refl, refl, refl, refl, refl, refl, refl, refl, refl, refl, ref
 -- Document 02, K11: "the lowest diagonal index at which A is zero (−0.0 counts), or −1. With a unit diagonal, α zero, m or n zero, or a refusal, it reports −1."
 zeroes :
     -- an upper A is solved from the last index down, a lower one from the first up
-    (zeroIn 'U' 'N' 1 1f (vec (0 ∷ 9 ∷ 2 ∷ 0 ∷ [])) ≡ pos 0)
-    × (zeroIn 'L' 'N' 1 1f (vec (0 ∷ 2 ∷ 9 ∷ 0 ∷ [])) ≡ pos 0)
-    × (zeroIn 'L' 'N' 1 1f (num 1 ∷ num 2 ∷ num 9 ∷ neg (num 0) ∷ []) ≡ pos 1)
-    × (zeroIn 'L' 'N' 1 1f (vec (1 ∷ 0 ∷ 0 ∷ 1 ∷ [])) ≡ none)
-    × (zeroIn 'L' 'U' 1 1f (vec (0 ∷ 2 ∷ 9 ∷ 0 ∷ [])) ≡ none)
-    × (zeroIn 'L' 'N' 1 0f (vec (0 ∷ 2 ∷ 9 ∷ 0 ∷ [])) ≡ none)
-    × (zeroIn 'L' 'N' 0 1f (vec (0 ∷ 2 ∷ 9 ∷ 0 ∷ [])) ≡ none)
-    × (zeroIn 88 'N' 1 1f (vec (0 ∷ 2 ∷ 9 ∷ 0 ∷ [])) ≡ none)
+    (zero_in 'U' 'N' 1 1f (vec (0 ∷ 9 ∷ 2 ∷ 0 ∷ [])) ≡ pos 0)
+    × (zero_in 'L' 'N' 1 1f (vec (0 ∷ 2 ∷ 9 ∷ 0 ∷ [])) ≡ pos 0)
+    × (zero_in 'L' 'N' 1 1f (num 1 ∷ num 2 ∷ num 9 ∷ neg (num 0) ∷ []) ≡ pos 1)
+    × (zero_in 'L' 'N' 1 1f (vec (1 ∷ 0 ∷ 0 ∷ 1 ∷ [])) ≡ none)
+    × (zero_in 'L' 'U' 1 1f (vec (0 ∷ 2 ∷ 9 ∷ 0 ∷ [])) ≡ none)
+    × (zero_in 'L' 'N' 1 0f (vec (0 ∷ 2 ∷ 9 ∷ 0 ∷ [])) ≡ none)
+    × (zero_in 'L' 'N' 0 1f (vec (0 ∷ 2 ∷ 9 ∷ 0 ∷ [])) ≡ none)
+    × (zero_in 88 'N' 1 1f (vec (0 ∷ 2 ∷ 9 ∷ 0 ∷ [])) ≡ none)
     -- "a run reports the first record that had one, or −1, across the steps it made, a solve counting at its last strip"
-    × (zeroesOf 1 (3 ∷ []) ≡ pos 0 ∷ [])
-    × (zeroesOf 1 (1 ∷ 1 ∷ 1 ∷ []) ≡ pos 0 ∷ none ∷ pos 1 ∷ [])
+    × (zeroes_of 1 (3 ∷ []) ≡ pos 0 ∷ [])
+    × (zeroes_of 1 (1 ∷ 1 ∷ 1 ∷ []) ≡ pos 0 ∷ none ∷ pos 1 ∷ [])
     -- the first record is refused
-    × (zeroesOf 0 (2 ∷ 1 ∷ []) ≡ none ∷ pos 1 ∷ [])
+    × (zeroes_of 0 (2 ∷ 1 ∷ []) ≡ none ∷ pos 1 ∷ [])
 unfolding opened
 zeroes = (refl, refl, refl, refl, refl, refl, refl, refl, refl, refl, refl)

@@ -2,9 +2,9 @@
 use Rattle.std.specs.Prelude.{ℕ, zero, suc, ◌+◌, max, Bool, true, false, not, ◌&&◌, ◌||◌, List, [], ◌∷◌, ◌++◌, ltb, eqb, ℤ, pos, negsuc, Float}
 use Rattle.arrays.specs.Choice.{if◌then◌else◌}
 use Rattle.arrays.specs.Search.{none}
-use Rattle.definitions.specs.Number.{isOne}
+use Rattle.definitions.specs.Number.{is_one}
 use Rattle.definitions.specs.Storage.{needed}
-use Rattle.definitions.specs.Call.{hasM, inPlace, empty, startOnly, shapeA, shapeB, shape_c}
+use Rattle.definitions.specs.Call.{has_m, in_place, empty, start_only, shape_a, shape_b, shape_c}
 use Rattle.definitions.specs.Element.{zero_of, result}
 use Rattle.definitions.specs.declared.Routine.{Routine}
 use Rattle.definitions.specs.declared.Routine.TheVariants.{Gemm, Symm, Syrk, Syr2k, Trmm, Trsm}
@@ -59,25 +59,25 @@ is letter code = eqb (nat code) letter || eqb (nat code) (letter + 32)
 unfoldable pub side_of : ℤ → Side
 side_of code = if is 'L' code then Left else Right
 
-unfoldable pub uploOf : ℤ → Triangle
-uploOf code = if is 'L' code then Lower else Upper
+unfoldable pub uplo_of : ℤ → Triangle
+uplo_of code = if is 'L' code then Lower else Upper
 
-unfoldable pub transOf : ℤ → Transpose
-transOf code = if is 'N' code then No else Yes
+unfoldable pub trans_of : ℤ → Transpose
+trans_of code = if is 'N' code then No else Yes
 
-unfoldable pub diagOf : ℤ → Diagonal
-diagOf code = if is 'U' code then Unit else Nonunit
+unfoldable pub diag_of : ℤ → Diagonal
+diag_of code = if is 'U' code then Unit else Nonunit
 
 -- "An accepted call is held as its options, each of two or three named values, beside its sizes."
 unfoldable pub call_of : Args → Call
 call_of g = record {
   routine = g.routine;
   side = side_of g.side;
-  uplo = uploOf g.uplo;
-  transa = transOf g.transa;
-  transb = transOf g.transb;
-  diag = diagOf g.diag;
-  m = if hasM g.routine then nat g.m else nat g.n;
+  uplo = uplo_of g.uplo;
+  transa = trans_of g.transa;
+  transb = trans_of g.transb;
+  diag = diag_of g.diag;
+  m = if has_m g.routine then nat g.m else nat g.n;
   n = nat g.n;
   k = nat g.k;
   alpha = g.alpha;
@@ -124,8 +124,8 @@ arrays Trsm = array-A at 8 ∷ array-B at 10 ∷ []
 -- ---- the tests
 
 -- Document 02, K2: "a leading dimension is bad below the larger of 1 and the rows". (A negative one counts as 0, which is below 1.)
-unfoldable pub badLd : ℤ → Shape → Bool
-badLd ld s = ltb (nat ld) (max 1 s.rows)
+unfoldable pub bad_ld : ℤ → Shape → Bool
+bad_ld ld s = ltb (nat ld) (max 1 s.rows)
 
 -- "array too short": shorter than it needs to be
 unfoldable pub short : ℕ → ℕ → Shape → Bool
@@ -133,35 +133,35 @@ short len ld s = ltb len (needed ld s.rows s.cols)
 
 -- "C, or B for TRMM and TRSM, is tested for length unless m or n is 0. Inputs are tested unless m, n, α or k is 0."
 unfoldable pub untested : Call → Bool
-untested c = empty c || startOnly c
+untested c = empty c || start_only c
 
-unfoldable pub badWith : Args → Call → Argument → Bool
-badWith g c side = not (is 'L' g.side || is 'R' g.side)
-badWith g c uplo = not (is 'L' g.uplo || is 'U' g.uplo)
-badWith g c transa = not (is 'N' g.transa || is 'T' g.transa || is 'C' g.transa)
-badWith g c transb = not (is 'N' g.transb || is 'T' g.transb || is 'C' g.transb)
-badWith g c diag = not (is 'U' g.diag || is 'N' g.diag)
-badWith g c size-m = negative g.m
-badWith g c size-n = negative g.n
-badWith g c size-k = negative g.k
-badWith g c ld-A = badLd g.lda (shapeA g.routine c)
-badWith g c ld-B = badLd g.ldb (shapeB g.routine c)
-badWith g c ld-C = badLd g.ldc (shape_c g.routine c)
-badWith g c array-A = not (untested c) && short g.lena c.lda (shapeA g.routine c)
-badWith g c array-B = not (if inPlace g.routine then empty c else untested c) && short g.lenb c.ldb (shapeB g.routine c)
-badWith g c array-C = not (empty c) && short g.lenc c.ldc (shape_c g.routine c)
+unfoldable pub bad_with : Args → Call → Argument → Bool
+bad_with g c side = not (is 'L' g.side || is 'R' g.side)
+bad_with g c uplo = not (is 'L' g.uplo || is 'U' g.uplo)
+bad_with g c transa = not (is 'N' g.transa || is 'T' g.transa || is 'C' g.transa)
+bad_with g c transb = not (is 'N' g.transb || is 'T' g.transb || is 'C' g.transb)
+bad_with g c diag = not (is 'U' g.diag || is 'N' g.diag)
+bad_with g c size-m = negative g.m
+bad_with g c size-n = negative g.n
+bad_with g c size-k = negative g.k
+bad_with g c ld-A = bad_ld g.lda (shape_a g.routine c)
+bad_with g c ld-B = bad_ld g.ldb (shape_b g.routine c)
+bad_with g c ld-C = bad_ld g.ldc (shape_c g.routine c)
+bad_with g c array-A = not (untested c) && short g.lena c.lda (shape_a g.routine c)
+bad_with g c array-B = not (if in_place g.routine then empty c else untested c) && short g.lenb c.ldb (shape_b g.routine c)
+bad_with g c array-C = not (empty c) && short g.lenc c.ldc (shape_c g.routine c)
 
 unfoldable pub bad : Args → Argument → Bool
-bad g x = badWith g (call_of g) x
+bad g x = bad_with g (call_of g) x
 
 -- The place of the first argument of the list that is bad, or 0.
-unfoldable pub firstBad : Args → List Place → ℕ
-firstBad g [] = 0
-firstBad g (x ∷ xs) = let rest = firstBad g xs in if bad g x.argument then x.place else rest
+unfoldable pub first_bad : Args → List Place → ℕ
+first_bad g [] = 0
+first_bad g (x ∷ xs) = let rest = first_bad g xs in if bad g x.argument then x.place else rest
 
 -- Document 02, K5: "Number 30 is left for values below 0 or above 64."
-unfoldable pub badWidth : ℤ → Bool
-badWidth w = negative w || ltb 64 (nat w)
+unfoldable pub bad_width : ℤ → Bool
+bad_width w = negative w || ltb 64 (nat w)
 
 -- Document 02, K5: "A strip width or block size of 0 is answered from now on, and works as 64." (A negative one is refused and stands for no width.)
 unfoldable pub width : ℤ → ℕ
@@ -171,13 +171,13 @@ width (negsuc n) = 0
 
 -- "30, then places ascending for codes, sizes and leading dimensions, then array lengths ascending": the number of a refusal, or 0
 unfoldable pub refusal : ℤ → ℤ → Args → ℕ
-refusal w r g = let e = firstBad g (places g.routine ++ arrays g.routine) in if badWidth w || badWidth r then 30 else e
+refusal w r g = let e = first_bad g (places g.routine ++ arrays g.routine) in if bad_width w || bad_width r then 30 else e
 
 -- ---- the answer
 
 -- "Nothing to do means that m or n is 0, or, in a routine that has β, that the start is the result and β is one"
 unfoldable pub idle : Call → Bool
-idle c = empty c || (not (inPlace c.routine) && (startOnly c && isOne c.beta))
+idle c = empty c || (not (in_place c.routine) && (start_only c && is_one c.beta))
 
 -- "The argument check ends as refused with a number, as nothing to do, or as ready."
 unfoldable pub checked : ℤ → ℤ → Args → Checked

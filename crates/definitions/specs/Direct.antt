@@ -23,8 +23,8 @@ done w r g a b out =
 abbrev none : ℤ
 none = pos 0
 
-abbrev pub gemmArgs : ℤ → ℤ → ℤ → ℤ → ℤ → Float → ℕ → ℤ → ℕ → ℤ → Float → ℕ → ℤ → Args
-gemmArgs transa transb m n k alpha lena lda lenb ldb beta lenc ldc = record {
+abbrev pub gemm_args : ℤ → ℤ → ℤ → ℤ → ℤ → Float → ℕ → ℤ → ℕ → ℤ → Float → ℕ → ℤ → Args
+gemm_args transa transb m n k alpha lena lda lenb ldb beta lenc ldc = record {
   routine = Gemm;
   side = none;
   uplo = none;
@@ -46,10 +46,10 @@ gemmArgs transa transb m n k alpha lena lda lenb ldb beta lenc ldc = record {
 
 unfoldable pub gemm : ℤ → ℤ → ℤ → ℤ → ℤ → Float → List Float → ℤ → List Float → ℤ → Float → List Float → ℤ → ℤ → ℤ → Done
 gemm transa transb m n k alpha a lda b ldb beta c ldc w r =
-    done w r (gemmArgs transa transb m n k alpha (length a) lda (length b) ldb beta (length c) ldc) a b c
+    done w r (gemm_args transa transb m n k alpha (length a) lda (length b) ldb beta (length c) ldc) a b c
 
-abbrev pub symmArgs : ℤ → ℤ → ℤ → ℤ → Float → ℕ → ℤ → ℕ → ℤ → Float → ℕ → ℤ → Args
-symmArgs side uplo m n alpha lena lda lenb ldb beta lenc ldc = record {
+abbrev pub symm_args : ℤ → ℤ → ℤ → ℤ → Float → ℕ → ℤ → ℕ → ℤ → Float → ℕ → ℤ → Args
+symm_args side uplo m n alpha lena lda lenb ldb beta lenc ldc = record {
   routine = Symm;
   side = side;
   uplo = uplo;
@@ -71,10 +71,10 @@ symmArgs side uplo m n alpha lena lda lenb ldb beta lenc ldc = record {
 
 unfoldable pub symm : ℤ → ℤ → ℤ → ℤ → Float → List Float → ℤ → List Float → ℤ → Float → List Float → ℤ → ℤ → ℤ → Done
 symm side uplo m n alpha a lda b ldb beta c ldc w r =
-    done w r (symmArgs side uplo m n alpha (length a) lda (length b) ldb beta (length c) ldc) a b c
+    done w r (symm_args side uplo m n alpha (length a) lda (length b) ldb beta (length c) ldc) a b c
 
-abbrev pub syrkArgs : ℤ → ℤ → ℤ → ℤ → Float → ℕ → ℤ → Float → ℕ → ℤ → Args
-syrkArgs uplo trans n k alpha lena lda beta lenc ldc = record {
+abbrev pub syrk_args : ℤ → ℤ → ℤ → ℤ → Float → ℕ → ℤ → Float → ℕ → ℤ → Args
+syrk_args uplo trans n k alpha lena lda beta lenc ldc = record {
   routine = Syrk;
   side = none;
   uplo = uplo;
@@ -96,10 +96,10 @@ syrkArgs uplo trans n k alpha lena lda beta lenc ldc = record {
 
 unfoldable pub syrk : ℤ → ℤ → ℤ → ℤ → Float → List Float → ℤ → Float → List Float → ℤ → ℤ → ℤ → Done
 syrk uplo trans n k alpha a lda beta c ldc w r =
-    done w r (syrkArgs uplo trans n k alpha (length a) lda beta (length c) ldc) a [] c
+    done w r (syrk_args uplo trans n k alpha (length a) lda beta (length c) ldc) a [] c
 
-abbrev pub syr2kArgs : ℤ → ℤ → ℤ → ℤ → Float → ℕ → ℤ → ℕ → ℤ → Float → ℕ → ℤ → Args
-syr2kArgs uplo trans n k alpha lena lda lenb ldb beta lenc ldc = record {
+abbrev pub syr2k_args : ℤ → ℤ → ℤ → ℤ → Float → ℕ → ℤ → ℕ → ℤ → Float → ℕ → ℤ → Args
+syr2k_args uplo trans n k alpha lena lda lenb ldb beta lenc ldc = record {
   routine = Syr2k;
   side = none;
   uplo = uplo;
@@ -121,11 +121,11 @@ syr2kArgs uplo trans n k alpha lena lda lenb ldb beta lenc ldc = record {
 
 unfoldable pub syr2k : ℤ → ℤ → ℤ → ℤ → Float → List Float → ℤ → List Float → ℤ → Float → List Float → ℤ → ℤ → ℤ → Done
 syr2k uplo trans n k alpha a lda b ldb beta c ldc w r =
-    done w r (syr2kArgs uplo trans n k alpha (length a) lda (length b) ldb beta (length c) ldc) a b c
+    done w r (syr2k_args uplo trans n k alpha (length a) lda (length b) ldb beta (length c) ldc) a b c
 
 -- TRMM and TRSM; b is the output.
-abbrev pub triangularArgs : Routine → ℤ → ℤ → ℤ → ℤ → ℤ → ℤ → Float → ℕ → ℤ → ℕ → ℤ → Args
-triangularArgs f side uplo transa diag m n alpha lena lda lenb ldb = record {
+abbrev pub triangular_args : Routine → ℤ → ℤ → ℤ → ℤ → ℤ → ℤ → Float → ℕ → ℤ → ℕ → ℤ → Args
+triangular_args f side uplo transa diag m n alpha lena lda lenb ldb = record {
   routine = f;
   side = side;
   uplo = uplo;
@@ -147,7 +147,7 @@ triangularArgs f side uplo transa diag m n alpha lena lda lenb ldb = record {
 
 unfoldable pub trmm : ℤ → ℤ → ℤ → ℤ → ℤ → ℤ → Float → List Float → ℤ → List Float → ℤ → ℤ → ℤ → Done
 trmm side uplo transa diag m n alpha a lda b ldb w r =
-    done w r (triangularArgs Trmm side uplo transa diag m n alpha (length a) lda (length b) ldb) a [] b
+    done w r (triangular_args Trmm side uplo transa diag m n alpha (length a) lda (length b) ldb) a [] b
 
 -- Document 02, K11: a solve "also reports the lowest diagonal index at which A is zero".
 pub record Solved : Type 0 where
@@ -161,4 +161,4 @@ solved w r g a b out =
 
 unfoldable pub trsm : ℤ → ℤ → ℤ → ℤ → ℤ → ℤ → Float → List Float → ℤ → List Float → ℤ → ℤ → ℤ → Solved
 trsm side uplo transa diag m n alpha a lda b ldb w r =
-    solved w r (triangularArgs Trsm side uplo transa diag m n alpha (length a) lda (length b) ldb) a [] b
+    solved w r (triangular_args Trsm side uplo transa diag m n alpha (length a) lda (length b) ldb) a [] b

@@ -8,9 +8,9 @@ use Rattle.arrays.specs.Update.{EntryMap, update, entries, only}
 use Rattle.arrays.specs.Fold.{fold, among, solved}
 use Rattle.arrays.specs.Search.{lowest, none, answer}
 use Rattle.floats.specs.Operations.{◌⊕◌, ◌⊗◌, ◌⊘◌, 0f, 1f, −1f}
-use Rattle.definitions.specs.Number.{isZero, factor, start}
-use Rattle.definitions.specs.Storage.{Matrix, stored, transposed, op, inside, opTriangle, mirrored, withDiagonal}
-use Rattle.definitions.specs.Call.{bySide, inPlace, empty, order, ldOutput, extent, writes}
+use Rattle.definitions.specs.Number.{is_zero, factor, start}
+use Rattle.definitions.specs.Storage.{Matrix, stored, transposed, op, inside, op_triangle, mirrored, with_diagonal}
+use Rattle.definitions.specs.Call.{by_side, in_place, empty, order, ld_output, extent, writes}
 use Rattle.definitions.specs.declared.Routine.{Routine}
 use Rattle.definitions.specs.declared.Routine.TheVariants.{Gemm, Symm, Syrk, Syr2k, Trmm, Trsm}
 use Rattle.definitions.specs.declared.Side.{Side}
@@ -39,20 +39,20 @@ infix 80 ◌times◌
 abbrev pub ◌times◌ : Floats → Floats → Product
 L times R = record { left = L; right = R }
 
-unfoldable pub productTerm : Float → Product → ℕ → ℕ → Float → ℕ → Float
-productTerm α p i j = term α (λ l. p.left i l) (λ l. p.right l j)
+unfoldable pub product_term : Float → Product → ℕ → ℕ → Float → ℕ → Float
+product_term α p i j = term α (λ l. p.left i l) (λ l. p.right l j)
 
 -- "for l ascending", "from 0 to the inner size less 1": all terms of the first product, then all of the next
-unfoldable pub allTerms : Float → ℕ → List Product → ℕ → ℕ → Float → Float
-allTerms α k [] i j e = e
-allTerms α k (p ∷ ps) i j e = allTerms α k ps i j (fold (productTerm α p i j) k e)
+unfoldable pub all_terms : Float → ℕ → List Product → ℕ → ℕ → Float → Float
+all_terms α k [] i j e = e
+all_terms α k (p ∷ ps) i j e = all_terms α k ps i j (fold (product_term α p i j) k e)
 
 -- "If α or k is zero the start is the result. Otherwise .." (A fold of no terms is its start, so k needs no test.)
 unfoldable pub accumulated : Call → ℕ → List Product → EntryMap Float
 accumulated c k ps i j old =
     let e = start c.beta old in
-    let r = allTerms (factor c.alpha) k ps i j e in
-    if isZero c.alpha then e else r
+    let r = all_terms (factor c.alpha) k ps i j e in
+    if is_zero c.alpha then e else r
 
 -- "C ← αop(A)op(B) + βC"
 unfoldable pub gemm : Call → Floats → Floats → EntryMap Float
@@ -62,7 +62,7 @@ gemm c A B = accumulated c c.k (op c.transa A times op c.transb B ∷ [])
 unfoldable pub symm : Call → Floats → Floats → EntryMap Float
 symm c A B =
     let S = mirrored c.uplo A in
-    accumulated c (order c) (bySide c.side (S times B) (B times S) ∷ [])
+    accumulated c (order c) (by_side c.side (S times B) (B times S) ∷ [])
 
 -- "C ← αop(A)op(A)ᵀ + βC"
 unfoldable pub syrk : Call → Floats → EntryMap Float
@@ -81,30 +81,30 @@ syr2k c A B =
 
 -- op(A) with its diagonal, and its triangle.
 unfoldable pub triangular : Call → Floats → Floats
-triangular c A = withDiagonal 1f c.diag (op c.transa A)
+triangular c A = with_diagonal 1f c.diag (op c.transa A)
 
 unfoldable pub triangle : Call → Triangle
-triangle c = opTriangle c.transa c.uplo
+triangle c = op_triangle c.transa c.uplo
 
 -- "B ← αop(A)B or αBop(A)"; "start +0.0; l ascending over the triangle of op(A), diagonal included; all of B as at entry. α zero: +0.0."
 unfoldable pub trmm : Call → Floats → Floats → EntryMap Float
 trmm c A B i j old =
     let T = triangular c A in
     let t = triangle c in
-    let step = productTerm (factor c.alpha) (bySide c.side (T times B) (B times T)) i j in
-    let r = fold (among (λ l. bySide c.side (inside t i l) (inside t l j)) step) (order c) 0f in
-    if isZero c.alpha then 0f else r
+    let step = product_term (factor c.alpha) (by_side c.side (T times B) (B times T)) i j in
+    let r = fold (among (λ l. by_side c.side (inside t i l) (inside t l j)) step) (order c) 0f in
+    if is_zero c.alpha then 0f else r
 
 -- Solving goes from low index to high: op(A) is lower for side L, upper for side R.
-unfoldable pub solvesUp : Side → Triangle → Bool
-solvesUp Left Lower = true
-solvesUp Left Upper = false
-solvesUp Right Lower = false
-solvesUp Right Upper = true
+unfoldable pub solves_up : Side → Triangle → Bool
+solves_up Left Lower = true
+solves_up Left Upper = false
+solves_up Right Lower = false
+solves_up Right Upper = true
 
 -- The index of the value that is solved q-th, and the place in that order of the value with index q.
 unfoldable pub turn : Call → ℕ → ℕ
-turn c q = if solvesUp c.side (triangle c) then q else order c - 1 - q
+turn c q = if solves_up c.side (triangle c) then q else order c - 1 - q
 
 -- "then one division by the diagonal element unless diag is U"; "the float quotient stands"
 unfoldable pub divided : Diagonal → Float → Float → Float
@@ -114,33 +114,33 @@ divided Nonunit e d = e ⊘ d
 -- The value that is solved q-th in column j (side L) or row i (side R) of X, from the list xs of those solved before it:
 -- "start α·b, then the terms of op(A)X (side L) or Xop(A) (side R) with −1.0 in place of α, X being the values already solved";
 -- "If solving goes from low index to high, l ascends from 0; if from high to low, l descends from the last."
-unfoldable pub solveNext : Call → Floats → Floats → ℕ → ℕ → List Float → ℕ → Float
-solveNext c T B i j xs q =
+unfoldable pub solve_next : Call → Floats → Floats → ℕ → ℕ → List Float → ℕ → Float
+solve_next c T B i j xs q =
     let p = turn c q in
-    let b = bySide c.side (B p j) (B i p) in
+    let b = by_side c.side (B p j) (B i p) in
     let x : ℕ → Float = λ l. get_or xs l nan in
-    let u : ℕ → Float = λ l. bySide c.side (T p (turn c l)) (x l) in
-    let v : ℕ → Float = λ l. bySide c.side (x l) (T (turn c l) p) in
+    let u : ℕ → Float = λ l. by_side c.side (T p (turn c l)) (x l) in
+    let v : ℕ → Float = λ l. by_side c.side (x l) (T (turn c l) p) in
     divided c.diag (fold (term −1f u v) q (factor c.alpha ⊗ b)) (T p p)
 
 -- "B ← αop(A)⁻¹B or αBop(A)⁻¹"; "TRSM, α zero: +0.0, A not read."
 unfoldable pub trsm : Call → Floats → Floats → EntryMap Float
 trsm c A B i j old =
-    let next = solveNext c (triangular c A) B i j in
-    let q = turn c (bySide c.side i j) in
+    let next = solve_next c (triangular c A) B i j in
+    let q = turn c (by_side c.side i j) in
     let r = next (solved next q) q in
-    if isZero c.alpha then 0f else r
+    if is_zero c.alpha then 0f else r
 
 -- Document 02, K11: "at which A is zero (−0.0 counts)": the division is one by zero. With diag U there is none.
-unfoldable pub byZero : Diagonal → Float → Bool
-byZero Unit d = false
-byZero Nonunit d = Ieee.eq d 0f
+unfoldable pub by_zero : Diagonal → Float → Bool
+by_zero Unit d = false
+by_zero Nonunit d = Ieee.eq d 0f
 
 -- "A nonunit solve now also reports the lowest diagonal index at which A is zero (−0.0 counts), or −1. With a unit diagonal, α zero, m or n zero, .. it reports −1."
-unfoldable pub zeroOnDiagonal : Call → Floats → ℤ
-zeroOnDiagonal c A =
-    let z = answer (order c) (lowest (λ i. byZero c.diag (A i i)) (order c)) in
-    if empty c || isZero c.alpha then none else z
+unfoldable pub zero_on_diagonal : Call → Floats → ℤ
+zero_on_diagonal c A =
+    let z = answer (order c) (lowest (λ i. by_zero c.diag (A i i)) (order c)) in
+    if empty c || is_zero c.alpha then none else z
 
 -- ---- the output's array
 
@@ -160,15 +160,15 @@ zero_of Symm c a = none
 zero_of Syrk c a = none
 zero_of Syr2k c a = none
 zero_of Trmm c a = none
-zero_of Trsm c a = zeroOnDiagonal c (stored nan a c.lda)
+zero_of Trsm c a = zero_on_diagonal c (stored nan a c.lda)
 
 -- The array that B is read from: TRMM and TRSM read it where they write it.
-unfoldable pub arrayB : Call → List Float → List Float → List Float
-arrayB c b out = if inPlace c.routine then out else b
+unfoldable pub array_b : Call → List Float → List Float → List Float
+array_b c b out = if in_place c.routine then out else b
 
 -- The output's array after each element from column (or row) `from` on and below `to` has its value; "What a step is not said to write keeps its bits."
 unfoldable pub strip : Call → List Float → List Float → ℕ → ℕ → List Float → List Float
-strip c a b from to out = update (entries (ldOutput c) (only (writes c from to) (value c.routine c a (arrayB c b out)))) out
+strip c a b from to out = update (entries (ld_output c) (only (writes c from to) (value c.routine c a (array_b c b out)))) out
 
 -- After the whole call.
 unfoldable pub result : Call → List Float → List Float → List Float → List Float

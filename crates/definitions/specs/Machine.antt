@@ -17,9 +17,9 @@ pub data Act (M : Type 0) : Type 0 where
   work : ℕ → (ℕ → M → M) → (M → Bool) → Act M
 
 -- The number of strips of a record, 0 if it is refused.
-unfoldable pub stripsOf : {M : Type 0} → Act M → ℕ
-stripsOf (refuse number) = 0
-stripsOf (work strips update singular) = strips
+unfoldable pub strips_of : {M : Type 0} → Act M → ℕ
+strips_of (refuse number) = 0
+strips_of (work strips update singular) = strips
 
 -- "it writes the number in answer p and goes to (p+1, 0)"
 unfoldable pub closed : {M : Type 0} → M → List ℤ → ℕ → ℕ → State M

@@ -6,7 +6,7 @@ use Rattle.arrays.specs.Update.{update, below, entries}
 use Rattle.arrays.specs.Fold.{fold}
 use Rattle.definitions.specs.Storage.{stored}
 use Rattle.definitions.specs.Call.{shape_c}
-use Rattle.definitions.specs.Check.{negative, nat, 'N', call_of, places, arrays, short, untested, firstBad, badWidth}
+use Rattle.definitions.specs.Check.{negative, nat, 'N', call_of, places, arrays, short, untested, first_bad, bad_width}
 use Rattle.definitions.specs.Direct as Direct
 use Rattle.definitions.specs.declared.Args.{Args}
 use Rattle.definitions.specs.declared.Call.{Call}
@@ -30,41 +30,41 @@ packed c a n pack = update (below n (entries c.m (λ i l old. stored nan a c.lda
 -- ---- the numbers
 
 -- "An item count outside 0 to 1,000 is 42"
-unfoldable pub badCount : ℤ → Bool
-badCount count = negative count || ltb 1000 (nat count)
+unfoldable pub bad_count : ℤ → Bool
+bad_count count = negative count || ltb 1000 (nat count)
 
 -- "a negative stride or a C stride below the needed length of C is 43"
-unfoldable pub badStride : Call → Items → Bool
-badStride c t = negative t.strideb || negative t.stridec || short (nat t.stridec) c.ldc (shape_c c.routine c)
+unfoldable pub bad_stride : Call → Items → Bool
+bad_stride c t = negative t.strideb || negative t.stridec || short (nat t.stridec) c.ldc (shape_c c.routine c)
 
 -- The elements that an array has from its last item on.
-unfoldable pub fromLast : ℕ → ℤ → ℤ → ℕ
-fromLast len stride count = len - (nat count - 1) * nat stride
+unfoldable pub from_last : ℕ → ℤ → ℤ → ℕ
+from_last len stride count = len - (nat count - 1) * nat stride
 
 -- The first of the numbers that is not 0, or 0.
-unfoldable pub firstNumber : List ℕ → ℕ
-firstNumber [] = 0
-firstNumber (e ∷ es) = let rest = firstNumber es in if eqb e 0 then rest else e
+unfoldable pub first_number : List ℕ → ℕ
+first_number [] = 0
+first_number (e ∷ es) = let rest = first_number es in if eqb e 0 then rest else e
 
 -- The arguments g are those of the last item's GEMM: "Where GEMM tests B or C, its numbers 9 and 12 are here given when the array ends before its last item's needed length;
 -- with no right sides no array is tested." 42 and 43 are "both tested, in that order, after GEMM's leading dimensions and before its arrays; a pack area under m·k where one is
 -- needed is 44, tested last."
 unfoldable pub refusal : ℤ → ℤ → Args → Items → ℕ → ℕ
 refusal w r g t pack =
-    firstNumber (
-    (if badWidth w || badWidth r then 30 else 0)
-    ∷ firstBad g (places g.routine)
-    ∷ (if badCount t.count then 42 else 0)
-    ∷ (if badStride (call_of g) t then 43 else 0)
-    ∷ (if eqb (nat t.count) 0 then 0 else firstBad g (arrays g.routine))
+    first_number (
+    (if bad_width w || bad_width r then 30 else 0)
+    ∷ first_bad g (places g.routine)
+    ∷ (if bad_count t.count then 42 else 0)
+    ∷ (if bad_stride (call_of g) t then 43 else 0)
+    ∷ (if eqb (nat t.count) 0 then 0 else first_bad g (arrays g.routine))
     ∷ (if ltb pack (copied (call_of g) (nat t.count)) then 44 else 0)
     ∷ [])
 
 -- ---- the call
 
 -- What the call has copied. (A refused one has copied nothing.)
-abbrev pub copiedBy : ℤ → ℤ → Args → Items → ℕ → ℕ
-copiedBy w r g t pack = if eqb (refusal w r g t pack) 0 then copied (call_of g) (nat t.count) else 0
+abbrev pub copied_by : ℤ → ℤ → Args → Items → ℕ → ℕ
+copied_by w r g t pack = if eqb (refusal w r g t pack) 0 then copied (call_of g) (nat t.count) else 0
 
 -- What an item leaves in the array of all C, if `own` is what it leaves of its own part from its own B.
 unfoldable pub item : (List Float → List Float → List Float) → ℕ → ℕ → List Float → List Float → ℕ → List Float
@@ -80,17 +80,17 @@ abbrev pub items_of : ℤ → ℤ → ℤ → Items
 items_of count strideb stridec = record { count = count; strideb = strideb; stridec = stridec }
 
 -- The arguments of the last item's GEMM: A is "not transposed (no place 1)".
-abbrev pub lastArgs : ℤ → ℤ → ℤ → ℤ → Float → ℕ → ℤ → ℕ → ℤ → ℤ → Float → ℕ → ℤ → ℤ → ℤ → Args
-lastArgs transb m n k alpha lena lda lenb ldb strideb beta lenc ldc stridec items =
-    Direct.gemmArgs (pos 'N') transb m n k alpha lena lda (fromLast lenb strideb items) ldb beta (fromLast lenc stridec items) ldc
+abbrev pub last_args : ℤ → ℤ → ℤ → ℤ → Float → ℕ → ℤ → ℕ → ℤ → ℤ → Float → ℕ → ℤ → ℤ → ℤ → Args
+last_args transb m n k alpha lena lda lenb ldb strideb beta lenc ldc stridec items =
+    Direct.gemm_args (pos 'N') transb m n k alpha lena lda (from_last lenb strideb items) ldb beta (from_last lenc stridec items) ldc
 
 -- "Every C is what its own GEMM gives". Refused, the call writes nothing.
 unfoldable pub many : ℤ → ℤ → ℤ → ℤ → Float → List Float → ℤ → List Float → ℤ → ℤ → Float → List Float → ℤ → ℤ → ℤ → List Float → ℤ → ℤ → Done
 many transb m n k alpha a lda b ldb strideb beta c ldc stridec items pack w r =
-    let g = lastArgs transb m n k alpha (length a) lda (length b) ldb strideb beta (length c) ldc stridec items in
+    let g = last_args transb m n k alpha (length a) lda (length b) ldb strideb beta (length c) ldc stridec items in
     let t = items_of items strideb stridec in
     let e = refusal w r g t (length pack) in
     let own : List Float → List Float → List Float = λ x y. (Direct.gemm (pos 'N') transb m n k alpha a lda x ldb beta y ldc w r).array in
-    let n = copiedBy w r g t (length pack) in
+    let n = copied_by w r g t (length pack) in
     let all = fold (item own (nat strideb) (nat stridec) b) (nat items) c in
     record { end = record { number = pos e; copied = n }; array = if eqb e 0 then all else c; pack = packed (call_of g) a n pack }

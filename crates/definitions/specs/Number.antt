@@ -10,15 +10,15 @@ use Rattle.definitions.specs.declared.Scalar.TheVariants.{Zero, One, Other}
 unfoldable pub scalar : Float → Scalar
 scalar x = if Ieee.eq x 0f then Zero else if Ieee.eq x 1f then One else Other x
 
-abbrev pub isZero : Scalar → Bool
-isZero Zero = true
-isZero One = false
-isZero (Other x) = false
+abbrev pub is_zero : Scalar → Bool
+is_zero Zero = true
+is_zero One = false
+is_zero (Other x) = false
 
-abbrev pub isOne : Scalar → Bool
-isOne Zero = false
-isOne One = true
-isOne (Other x) = false
+abbrev pub is_one : Scalar → Bool
+is_one Zero = false
+is_one One = true
+is_one (Other x) = false
 
 -- The scalar as a factor. (That `factor (scalar x)` is x, if x is not zero, is `factor-is` of proofs/Scalars; the two zeros are never a factor.)
 unfoldable pub factor : Scalar → Float

@@ -5,7 +5,7 @@ use Rattle.std.proofs.Math.ListN.{get_elem?}
 use Rattle.std.specs.Float.{nan}
 use Rattle.arrays.specs.Choice.{if◌then◌else◌}
 use Rattle.definitions.specs.Number.{scalar}
-use Rattle.definitions.specs.Call.{inPlace, strips}
+use Rattle.definitions.specs.Call.{in_place, strips}
 use Rattle.definitions.specs.Element.{strip, zero_of}
 use Rattle.definitions.specs.Check.{nat, negative, width, refusal, call_of}
 use Rattle.definitions.specs.Machine.{Act, refuse, work}
@@ -67,7 +67,7 @@ C = 15
 
 -- The matrix that the routine writes, and those that it only reads. "Fields that a routine lacks are not read."
 unfoldable pub output : Routine → ℕ
-output f = if inPlace f then B else C
+output f = if in_place f then B else C
 
 unfoldable pub inputs : Routine → List ℕ
 inputs Gemm = A ∷ B ∷ []
@@ -82,11 +82,11 @@ any test [] = false
 any test (q ∷ qs) = test q || any test qs
 
 -- "α of record p at 2p, β at 2p+1"
-unfoldable pub alphaOf : Sheet → ℕ → Float
-alphaOf t p = get_or t.scalars (2 * p) nan
+unfoldable pub alpha_of : Sheet → ℕ → Float
+alpha_of t p = get_or t.scalars (2 * p) nan
 
-unfoldable pub betaOf : Sheet → ℕ → Float
-betaOf t p = get_or t.scalars (2 * p + 1) nan
+unfoldable pub beta_of : Sheet → ℕ → Float
+beta_of t p = get_or t.scalars (2 * p + 1) nan
 
 -- ---- the lent arrays
 
@@ -101,10 +101,10 @@ array l zero = l.x
 array l (suc zero) = l.y
 array l (suc (suc n)) = l.z
 
-unfoldable pub withArray : Arrays → ℕ → List Float → Arrays
-withArray l zero v = record { x = v; y = l.y; z = l.z }
-withArray l (suc zero) v = record { x = l.x; y = v; z = l.z }
-withArray l (suc (suc n)) v = record { x = l.x; y = l.y; z = v }
+unfoldable pub with_array : Arrays → ℕ → List Float → Arrays
+with_array l zero v = record { x = v; y = l.y; z = l.z }
+with_array l (suc zero) v = record { x = l.x; y = v; z = l.z }
+with_array l (suc (suc n)) v = record { x = l.x; y = l.y; z = v }
 
 -- The length of each array.
 unfoldable pub lengths : Arrays → ℕ → ℕ
@@ -114,25 +114,25 @@ lengths l n = length (array l n)
 unfoldable pub part : Sheet → ℕ → ℕ → Arrays → List Float
 part t p q l = drop (nat (field t p (q + 1))) (array l (nat (field t p q)))
 
-unfoldable pub partLength : Sheet → ℕ → ℕ → (ℕ → ℕ) → ℕ
-partLength t p q size = size (nat (field t p q)) - nat (field t p (q + 1))
+unfoldable pub part_length : Sheet → ℕ → ℕ → (ℕ → ℕ) → ℕ
+part_length t p q size = size (nat (field t p q)) - nat (field t p (q + 1))
 
 -- ---- the tests of a record; `size` gives the arrays' lengths
 
 -- 32: "array number not 0 to 2, or the output's array also that of another matrix"
-unfoldable pub badArrays : Sheet → ℕ → Routine → Bool
-badArrays t p f =
+unfoldable pub bad_arrays : Sheet → ℕ → Routine → Bool
+bad_arrays t p f =
     any (λ q. negative (field t p q) || ltb 2 (nat (field t p q))) (output f ∷ inputs f)
     || any (λ q. eqb (nat (field t p q)) (nat (field t p (output f)))) (inputs f)
 
 -- 33: "offset negative or above the array's length"
-unfoldable pub badOffsets : Sheet → ℕ → Routine → (ℕ → ℕ) → Bool
-badOffsets t p f size =
+unfoldable pub bad_offsets : Sheet → ℕ → Routine → (ℕ → ℕ) → Bool
+bad_offsets t p f size =
     any (λ q. negative (field t p (q + 1)) || ltb (size (nat (field t p q))) (nat (field t p (q + 1)))) (output f ∷ inputs f)
 
 -- The arguments of record p as those of a direct call.
-unfoldable pub argsOf : Sheet → ℕ → Routine → (ℕ → ℕ) → Args
-argsOf t p f size = record {
+unfoldable pub args_of : Sheet → ℕ → Routine → (ℕ → ℕ) → Args
+args_of t p f size = record {
   routine = f;
   side = field t p 1;
   uplo = field t p 2;
@@ -142,22 +142,22 @@ argsOf t p f size = record {
   m = field t p 6;
   n = field t p 7;
   k = field t p 8;
-  alpha = scalar (alphaOf t p);
-  beta = scalar (betaOf t p);
+  alpha = scalar (alpha_of t p);
+  beta = scalar (beta_of t p);
   lda = field t p (A + 2);
   ldb = field t p (B + 2);
   ldc = field t p (C + 2);
-  lena = partLength t p A size;
-  lenb = partLength t p B size;
-  lenc = partLength t p C size;
+  lena = part_length t p A size;
+  lenb = part_length t p B size;
+  lenc = part_length t p C size;
 }
 
 -- "A record tests 31, 32, 33, then as a direct call": the number of a refusal, or 0
-unfoldable pub recordRefusal : Sheet → ℕ → (ℕ → ℕ) → Option Routine → ℕ
-recordRefusal t p size none = 31
-recordRefusal t p size (some f) =
-    let direct = refusal (field t p 18) (field t p 19) (argsOf t p f size) in
-    if badArrays t p f then 32 else if badOffsets t p f size then 33 else direct
+unfoldable pub record_refusal : Sheet → ℕ → (ℕ → ℕ) → Option Routine → ℕ
+record_refusal t p size none = 31
+record_refusal t p size (some f) =
+    let direct = refusal (field t p 18) (field t p 19) (args_of t p f size) in
+    if bad_arrays t p f then 32 else if bad_offsets t p f size then 33 else direct
 
 -- ---- what a record does
 
@@ -165,24 +165,24 @@ unfoldable pub width_of : Sheet → ℕ → ℕ
 width_of t p = width (field t p 18)
 
 -- The arrays after the columns, or rows, of record p from `from` on and below `to`.
-unfoldable pub stripDone : Sheet → ℕ → Routine → Call → ℕ → ℕ → Arrays → Arrays
-stripDone t p f c from to l =
+unfoldable pub strip_done : Sheet → ℕ → Routine → Call → ℕ → ℕ → Arrays → Arrays
+strip_done t p f c from to l =
     let number = nat (field t p (output f)) in
     let offset = nat (field t p (output f + 1)) in
-    withArray l number (take offset (array l number) ++ strip c (part t p A l) (part t p B l) from to (part t p (output f) l))
+    with_array l number (take offset (array l number) ++ strip c (part t p A l) (part t p B l) from to (part t p (output f) l))
 
 -- "Strip s is the columns, or the rows where strips cut rows, from s·w on that are below (s+1)·w and below d."
 unfoldable pub accepted : Sheet → ℕ → Routine → Call → Act Arrays
 accepted t p f c =
     let w = width_of t p in
-    work (strips w c) (λ s l. stripDone t p f c (s * w) (suc s * w) l) (λ l. not (negative (zero_of f c (part t p A l))))
+    work (strips w c) (λ s l. strip_done t p f c (s * w) (suc s * w) l) (λ l. not (negative (zero_of f c (part t p A l))))
 
-unfoldable pub actBy : Sheet → ℕ → (ℕ → ℕ) → Option Routine → Act Arrays
-actBy t p size none = refuse 31
-actBy t p size (some f) =
-    let e = recordRefusal t p size (some f) in
-    let done = accepted t p f (call_of (argsOf t p f size)) in
+unfoldable pub act_by : Sheet → ℕ → (ℕ → ℕ) → Option Routine → Act Arrays
+act_by t p size none = refuse 31
+act_by t p size (some f) =
+    let e = record_refusal t p size (some f) in
+    let done = accepted t p f (call_of (args_of t p f size)) in
     if eqb e 0 then done else refuse e
 
 unfoldable pub act : Sheet → ℕ → Arrays → Act Arrays
-act t p l = actBy t p (lengths l) (routine_of (field t p 0))
+act t p l = act_by t p (lengths l) (routine_of (field t p 0))

@@ -31,19 +31,19 @@ inside Lower i j = leb j i
 inside Upper i j = leb i j
 
 -- The triangle of op(A), if A's is the one given.
-unfoldable pub opTriangle : Transpose → Triangle → Triangle
-opTriangle No t = t
-opTriangle Yes Lower = Upper
-opTriangle Yes Upper = Lower
+unfoldable pub op_triangle : Transpose → Triangle → Triangle
+op_triangle No t = t
+op_triangle Yes Lower = Upper
+op_triangle Yes Upper = Lower
 
 -- "only triangle uplo of A is read, the other mirrored"
 unfoldable pub mirrored : {E : Type 0} → Triangle → Matrix E → Matrix E
 mirrored t M i j = if inside t i j then M i j else M j i
 
 -- "With diag U the diagonal counts as 1.0 and is not read."
-unfoldable pub withDiagonal : {E : Type 0} → E → Diagonal → Matrix E → Matrix E
-withDiagonal one Unit M i j = if eqb i j then one else M i j
-withDiagonal one Nonunit M i j = M i j
+unfoldable pub with_diagonal : {E : Type 0} → E → Diagonal → Matrix E → Matrix E
+with_diagonal one Unit M i j = if eqb i j then one else M i j
+with_diagonal one Nonunit M i j = M i j
 
 -- "An array of p rows and q columns needs ld·(q−1)+p elements, or 0 if p or q is 0."
 unfoldable pub needed : ℕ → ℕ → ℕ → ℕ

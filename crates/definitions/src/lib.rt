@@ -150,7 +150,7 @@ impl Scalar {
     }
 
     pub fn is_zero(self) -> bool
-        ensures { result ≡ Number.isZero self }
+        ensures { result ≡ Number.is_zero self }
     {
         match self {
             Scalar::Zero => true,
@@ -160,7 +160,7 @@ impl Scalar {
     }
 
     pub fn is_one(self) -> bool
-        ensures { result ≡ Number.isOne self }
+        ensures { result ≡ Number.is_one self }
     {
         match self {
             Scalar::Zero => false,

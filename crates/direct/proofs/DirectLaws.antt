@@ -20,11 +20,11 @@ use Rattle.floats.specs.Array.{at}
 use Rattle.floats.specs.Operations.{◌⊕◌, ◌⊗◌}
 use Rattle.blocks.specs.Terms.{accumulate}
 use Rattle.blocks.proofs.TermLaws.{accumulate-none, accumulate-same, accumulate-split}
-use Rattle.packing.specs.Factor.{Matrix, isMirrored, isLower, mirroredForm, index_of, entry_of, turn}
+use Rattle.packing.specs.Factor.{Matrix, is_mirrored, is_lower, mirrored_form, index_of, entry_of, turn}
 use Rattle.packing.specs.declared.Form.{Form}
 use Rattle.packing.specs.declared.Form.TheVariants.{Plain, Transposed, Lower, Upper}
 use Rattle.packing.proofs.FactorLaws.{by-triangle, turn_below}
-use Rattle.direct.specs.Product.{partly, product, strided, rowStride, columnStride, fromRow, fromColumn}
+use Rattle.direct.specs.Product.{partly, product, strided, row_stride, column_stride, from_row, from_column}
 use Rattle.packing.proofs.PackLaws.{held}
 
 -- ---- no terms yet
@@ -148,7 +148,7 @@ one-column-of alpha a ra ca b rb cb down k ld rows i₀ j w ys pos fit e =
 
 -- ---- by the forms of the factors
 
-pub stride-index : (form : Form) → isMirrored form ≡ false → (ld i j : ℕ) → index_of form ld i j ≡ i * rowStride form ld + j * columnStride form ld
+pub stride-index : (form : Form) → is_mirrored form ≡ false → (ld i j : ℕ) → index_of form ld i j ≡ i * row_stride form ld + j * column_stride form ld
 unfolding index_of
 stride-index Plain e ld i j = omega arith
 stride-index Transposed e ld i j = omega arith
@@ -172,44 +172,44 @@ same-product alpha A A' B B' down k ld rows cols mask l r pos inside ea eb e =
     (λ q c. ea i (turn down k q) w.0 (turn_below down k q c))))
 
 -- the rows of the left factor from i₀ on, by its strides
-pub left-entry : (form : Form) (a : List Float) (ld i₀ : ℕ) {ra ca : ℕ} (i l : ℕ) → isMirrored form ≡ false → ra ≡ rowStride form ld → ca ≡ columnStride form ld
-    → strided (take (length a - i₀ * ra) (drop (i₀ * ra) a)) ra ca i l ≡ fromRow i₀ (entry_of form a ld) i l
+pub left-entry : (form : Form) (a : List Float) (ld i₀ : ℕ) {ra ca : ℕ} (i l : ℕ) → is_mirrored form ≡ false → ra ≡ row_stride form ld → ca ≡ column_stride form ld
+    → strided (take (length a - i₀ * ra) (drop (i₀ * ra) a)) ra ca i l ≡ from_row i₀ (entry_of form a ld) i l
 unfolding strided entry_of
 left-entry form a ld i₀ {ra} {ca} i l h er ec =
     rows-part a ra ca i₀ i l ∙ ap (at a) (ap₂ (λ (r c : ℕ). (i₀ + i) * r + l * c) er ec ∙ sym (stride-index form h ld (i₀ + i) l))
 
 -- the columns of the right factor from j₀ on
-pub right-entry : (form : Form) (b : List Float) (ld j₀ : ℕ) {rb cb : ℕ} (l j : ℕ) → isMirrored form ≡ false → rb ≡ rowStride form ld → cb ≡ columnStride form ld
-    → strided (take (length b - j₀ * cb) (drop (j₀ * cb) b)) rb cb l j ≡ fromColumn j₀ (entry_of form b ld) l j
+pub right-entry : (form : Form) (b : List Float) (ld j₀ : ℕ) {rb cb : ℕ} (l j : ℕ) → is_mirrored form ≡ false → rb ≡ row_stride form ld → cb ≡ column_stride form ld
+    → strided (take (length b - j₀ * cb) (drop (j₀ * cb) b)) rb cb l j ≡ from_column j₀ (entry_of form b ld) l j
 unfolding strided entry_of
 right-entry form b ld j₀ {rb} {cb} l j h er ec =
     tail_at (j₀ * cb) b (l * rb + j * cb) nan ∙ ap (at b) (omega (arith, add-mul j₀ j cb))
     ∙ ap (at b) (ap₂ (λ (r c : ℕ). l * r + (j₀ + j) * c) er ec ∙ sym (stride-index form h ld l (j₀ + j)))
 
 -- an entry of a mirrored factor as it was written out
-pub written_out : (s : ℕ) (form : Form) {lower : Bool} (a : List Float) (ld ny nx i₀ j₀ : ℕ) (d₀ d : List Float) (y x : ℕ) → isMirrored form ≡ true
-    → lower ≡ isLower form → ny ≤ s → nx * s ≤ length d₀
-    → d ≡ update (region s ny nx (λ y x _. entry_of (mirroredForm lower) a ld (i₀ + y) (j₀ + x))) d₀ → y < ny → x < nx
+pub written_out : (s : ℕ) (form : Form) {lower : Bool} (a : List Float) (ld ny nx i₀ j₀ : ℕ) (d₀ d : List Float) (y x : ℕ) → is_mirrored form ≡ true
+    → lower ≡ is_lower form → ny ≤ s → nx * s ≤ length d₀
+    → d ≡ update (region s ny nx (λ y x _. entry_of (mirrored_form lower) a ld (i₀ + y) (j₀ + x))) d₀ → y < ny → x < nx
     → entry_of Plain d s y x ≡ entry_of form a ld (i₀ + y) (j₀ + x)
 unfolding entry_of index_of
 written_out s form {lower} a ld ny nx i₀ j₀ d₀ d y x m e hn hl ed hy hx =
-    held s ny nx (λ y x. entry_of (mirroredForm lower) a ld (i₀ + y) (j₀ + x)) d₀ d y x hn hl ed hy hx
-    ∙ ap (λ (f : Form). entry_of f a ld (i₀ + y) (j₀ + x)) (ap mirroredForm e ∙ by-triangle form m)
+    held s ny nx (λ y x. entry_of (mirrored_form lower) a ld (i₀ + y) (j₀ + x)) d₀ d y x hn hl ed hy hx
+    ∙ ap (λ (f : Form). entry_of f a ld (i₀ + y) (j₀ + x)) (ap mirrored_form e ∙ by-triangle form m)
 
 -- the places that are read
-pub left-room : (form : Form) (ld i₀ : ℕ) {ra ca len : ℕ} (i l : ℕ) → isMirrored form ≡ false → ra ≡ rowStride form ld → ca ≡ columnStride form ld
+pub left-room : (form : Form) (ld i₀ : ℕ) {ra ca len : ℕ} (i l : ℕ) → is_mirrored form ≡ false → ra ≡ row_stride form ld → ca ≡ column_stride form ld
     → index_of form ld (i₀ + i) l < len → i₀ * ra + (i * ra + l * ca) < len
 left-room form ld i₀ {ra} {ca} {len} i l h er ec b =
-    rw (er, ec) (omega (arith, stride-index form h ld (i₀ + i) l, add-mul i₀ i (rowStride form ld), b))
+    rw (er, ec) (omega (arith, stride-index form h ld (i₀ + i) l, add-mul i₀ i (row_stride form ld), b))
 
-pub right-room : (form : Form) (ld j₀ : ℕ) {rb cb len : ℕ} (l j : ℕ) → isMirrored form ≡ false → rb ≡ rowStride form ld → cb ≡ columnStride form ld
+pub right-room : (form : Form) (ld j₀ : ℕ) {rb cb len : ℕ} (l j : ℕ) → is_mirrored form ≡ false → rb ≡ row_stride form ld → cb ≡ column_stride form ld
     → index_of form ld l (j₀ + j) < len → j₀ * cb + (l * rb + j * cb) < len
 right-room form ld j₀ {rb} {cb} {len} l j h er ec b =
-    rw (er, ec) (omega (arith, stride-index form h ld l (j₀ + j), add-mul j₀ j (columnStride form ld), b))
+    rw (er, ec) (omega (arith, stride-index form h ld l (j₀ + j), add-mul j₀ j (column_stride form ld), b))
 
-pub mirrored-room : (form : Form) {lower : Bool} {len : ℕ} (ld i j : ℕ) → isMirrored form ≡ true → lower ≡ isLower form → index_of form ld i j < len
-    → index_of (mirroredForm lower) ld i j < len
-mirrored-room form {lower} {len} ld i j m e h = subst (λ (f : Form). index_of f ld i j < len) (sym (ap mirroredForm e ∙ by-triangle form m)) h
+pub mirrored-room : (form : Form) {lower : Bool} {len : ℕ} (ld i j : ℕ) → is_mirrored form ≡ true → lower ≡ is_lower form → index_of form ld i j < len
+    → index_of (mirrored_form lower) ld i j < len
+mirrored-room form {lower} {len} ld i j m e h = subst (λ (f : Form). index_of f ld i j < len) (sym (ap mirrored_form e ∙ by-triangle form m)) h
 
 -- an entry of the buffer that a mirrored factor is written out to
 pub buffer-room : (s : ℕ) {len ny nx : ℕ} (i j : ℕ) → ny ≤ s → nx * s ≤ len → i < ny → j < nx → index_of Plain s i j < len

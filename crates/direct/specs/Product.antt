@@ -2,7 +2,7 @@
 --     product     entry (i, j) of alpha times L times R, added to e term by term: e + (alpha * v) * u, u from L and v from R
 --     partly      the same, after n of the k terms
 --     strided     a factor that is read by two strides: entry (i, j) is element i * r + j * c
---     rowStride, columnStride   the strides of a form
+--     row_stride, column_stride   the strides of a form
 use Rattle.std.specs.Prelude.{Bool, List, ℕ, ◌+◌, ◌*◌, Float}
 use Rattle.arrays.specs.Update.{EntryMap}
 use Rattle.floats.specs.Array.{at}
@@ -22,21 +22,21 @@ unfoldable pub strided : List Float → ℕ → ℕ → Matrix
 strided a r c i j = at a (i * r + j * c)
 
 -- (Of a form that is not mirrored.)
-abbrev pub rowStride : Form → ℕ → ℕ
-rowStride Plain ld = 1
-rowStride Transposed ld = ld
-rowStride Lower ld = 0
-rowStride Upper ld = 0
+abbrev pub row_stride : Form → ℕ → ℕ
+row_stride Plain ld = 1
+row_stride Transposed ld = ld
+row_stride Lower ld = 0
+row_stride Upper ld = 0
 
-abbrev pub columnStride : Form → ℕ → ℕ
-columnStride Plain ld = ld
-columnStride Transposed ld = 1
-columnStride Lower ld = 0
-columnStride Upper ld = 0
+abbrev pub column_stride : Form → ℕ → ℕ
+column_stride Plain ld = ld
+column_stride Transposed ld = 1
+column_stride Lower ld = 0
+column_stride Upper ld = 0
 
 -- the rows of a factor from i₀ on, and its columns from j₀ on
-abbrev pub fromRow : ℕ → Matrix → Matrix
-fromRow i₀ M i l = M (i₀ + i) l
+abbrev pub from_row : ℕ → Matrix → Matrix
+from_row i₀ M i l = M (i₀ + i) l
 
-abbrev pub fromColumn : ℕ → Matrix → Matrix
-fromColumn j₀ M l j = M l (j₀ + j)
+abbrev pub from_column : ℕ → Matrix → Matrix
+from_column j₀ M l j = M l (j₀ + j)

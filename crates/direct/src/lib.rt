@@ -3,8 +3,8 @@
 ghost use Rattle.std.specs.Prelude.{◌≡◌, true, false, ℕ, ◌+◌, ◌*◌, ◌≤◌, ◌<◌, length};
 ghost use Rattle.arrays.specs.Update.{update, below, entries, only, region, corner};
 ghost use Rattle.floats.specs.Array.{at};
-ghost use Rattle.packing.specs.Factor.{isMirrored, index_of, entry_of};
-ghost use Rattle.direct.specs.Product.{strided, rowStride, columnStride, fromRow, fromColumn, product};
+ghost use Rattle.packing.specs.Factor.{is_mirrored, index_of, entry_of};
+ghost use Rattle.direct.specs.Product.{strided, row_stride, column_stride, from_row, from_column, product};
 
 use packing::{Form, factor, mirror};
 
@@ -210,7 +210,7 @@ fn corner_columns(
 // ---- by the forms of the factors
 
 fn row_stride(form: Form, ld: usize) -> usize
-    ensures { result ≡ rowStride form ld }
+    ensures { result ≡ row_stride form ld }
 {
     match form {
         Form::Plain => 1,
@@ -221,7 +221,7 @@ fn row_stride(form: Form, ld: usize) -> usize
 }
 
 fn column_stride(form: Form, ld: usize) -> usize
-    ensures { result ≡ columnStride form ld }
+    ensures { result ≡ column_stride form ld }
 {
     match form {
         Form::Plain => ld,
@@ -250,9 +250,9 @@ fn strides(
     down: bool,
 )
     requires rows_nonzero { (0 < rows) × (rows ≤ ld) × (cols * ld + rows ≤ length c.old + ld) × (0 < cols) × (0 < k) }
-    requires rows_bound { (i0 + rows < 18446744073709551616) × (j0 + cols < 18446744073709551616) × (isMirrored fa ≡ false) × (isMirrored fb ≡ false) }
+    requires rows_bound { (i0 + rows < 18446744073709551616) × (j0 + cols < 18446744073709551616) × (is_mirrored fa ≡ false) × (is_mirrored fb ≡ false) }
     requires by_index { ((i l : ℕ) → i < rows → l < k → index_of fa lda (i0 + i) l < length a.now) × ((l j : ℕ) → l < k → j < cols → index_of fb ldb l (j0 + j) < length b.now) }
-    ensures { c.new ≡ update (region ld rows cols (product alpha (fromRow i0 (entry_of fa a.now lda)) (fromColumn j0 (entry_of fb b.now ldb)) down k)) c.old }
+    ensures { c.new ≡ update (region ld rows cols (product alpha (from_row i0 (entry_of fa a.now lda)) (from_column j0 (entry_of fb b.now ldb)) down k)) c.old }
 {
     let ra = row_stride(fa, lda);
     let ca = column_stride(fa, lda);
@@ -298,9 +298,9 @@ fn left_written(
     u: &mut [f64],
 )
     requires rows_nonzero { (0 < rows) × (rows ≤ ld) × (cols * ld + rows ≤ length c.old + ld) × (0 < cols) × (rows ≤ s) × (0 < k) × (k * s ≤ length u.old) }
-    requires rows_bound { (i0 + rows < 18446744073709551616) × (j0 + cols < 18446744073709551616) × (isMirrored fa ≡ true) × (isMirrored fb ≡ false) }
+    requires rows_bound { (i0 + rows < 18446744073709551616) × (j0 + cols < 18446744073709551616) × (is_mirrored fa ≡ true) × (is_mirrored fb ≡ false) }
     requires by_index { ((i l : ℕ) → i < rows → l < k → index_of fa lda (i0 + i) l < length a.now) × ((l j : ℕ) → l < k → j < cols → index_of fb ldb l (j0 + j) < length b.now) }
-    ensures { c.new ≡ update (region ld rows cols (product alpha (fromRow i0 (entry_of fa a.now lda)) (fromColumn j0 (entry_of fb b.now ldb)) down k)) c.old }
+    ensures { c.new ≡ update (region ld rows cols (product alpha (from_row i0 (entry_of fa a.now lda)) (from_column j0 (entry_of fb b.now ldb)) down k)) c.old }
 {
     let lower = mirror::is_lower(fa);
     mirror::block(u, s, rows, k, lower, a, lda, i0, 0);
@@ -342,9 +342,9 @@ fn left_mirrored(
     down: bool,
 )
     requires rows_nonzero { (0 < rows) × (rows ≤ ld) × (cols * ld + rows ≤ length c.old + ld) × (0 < cols) × (rows ≤ 16) × (0 < k) × (k ≤ 16) }
-    requires rows_bound { (i0 + rows < 18446744073709551616) × (j0 + cols < 18446744073709551616) × (isMirrored fa ≡ true) × (isMirrored fb ≡ false) }
+    requires rows_bound { (i0 + rows < 18446744073709551616) × (j0 + cols < 18446744073709551616) × (is_mirrored fa ≡ true) × (is_mirrored fb ≡ false) }
     requires by_index { ((i l : ℕ) → i < rows → l < k → index_of fa lda (i0 + i) l < length a.now) × ((l j : ℕ) → l < k → j < cols → index_of fb ldb l (j0 + j) < length b.now) }
-    ensures { c.new ≡ update (region ld rows cols (product alpha (fromRow i0 (entry_of fa a.now lda)) (fromColumn j0 (entry_of fb b.now ldb)) down k)) c.old }
+    ensures { c.new ≡ update (region ld rows cols (product alpha (from_row i0 (entry_of fa a.now lda)) (from_column j0 (entry_of fb b.now ldb)) down k)) c.old }
 {
     if within(rows, rows, k, 8) {
         let mut u = [0.0f64; 64];
@@ -380,9 +380,9 @@ fn right_written(
     t: &mut [f64],
 )
     requires rows_nonzero { (0 < rows) × (rows ≤ ld) × (cols * ld + rows ≤ length c.old + ld) × (0 < cols) × (k ≤ s) × (0 < k) × (cols * s ≤ length t.old) }
-    requires rows_bound { (i0 + rows < 18446744073709551616) × (j0 + cols < 18446744073709551616) × (isMirrored fa ≡ false) × (isMirrored fb ≡ true) }
+    requires rows_bound { (i0 + rows < 18446744073709551616) × (j0 + cols < 18446744073709551616) × (is_mirrored fa ≡ false) × (is_mirrored fb ≡ true) }
     requires by_index { ((i l : ℕ) → i < rows → l < k → index_of fa lda (i0 + i) l < length a.now) × ((l j : ℕ) → l < k → j < cols → index_of fb ldb l (j0 + j) < length b.now) }
-    ensures { c.new ≡ update (region ld rows cols (product alpha (fromRow i0 (entry_of fa a.now lda)) (fromColumn j0 (entry_of fb b.now ldb)) down k)) c.old }
+    ensures { c.new ≡ update (region ld rows cols (product alpha (from_row i0 (entry_of fa a.now lda)) (from_column j0 (entry_of fb b.now ldb)) down k)) c.old }
 {
     let lower = mirror::is_lower(fb);
     mirror::block(t, s, k, cols, lower, b, ldb, 0, j0);
@@ -424,9 +424,9 @@ fn right_mirrored(
     down: bool,
 )
     requires rows_nonzero { (0 < rows) × (rows ≤ ld) × (cols * ld + rows ≤ length c.old + ld) × (0 < cols) × (cols ≤ 16) × (0 < k) × (k ≤ 16) }
-    requires rows_bound { (i0 + rows < 18446744073709551616) × (j0 + cols < 18446744073709551616) × (isMirrored fa ≡ false) × (isMirrored fb ≡ true) }
+    requires rows_bound { (i0 + rows < 18446744073709551616) × (j0 + cols < 18446744073709551616) × (is_mirrored fa ≡ false) × (is_mirrored fb ≡ true) }
     requires by_index { ((i l : ℕ) → i < rows → l < k → index_of fa lda (i0 + i) l < length a.now) × ((l j : ℕ) → l < k → j < cols → index_of fb ldb l (j0 + j) < length b.now) }
-    ensures { c.new ≡ update (region ld rows cols (product alpha (fromRow i0 (entry_of fa a.now lda)) (fromColumn j0 (entry_of fb b.now ldb)) down k)) c.old }
+    ensures { c.new ≡ update (region ld rows cols (product alpha (from_row i0 (entry_of fa a.now lda)) (from_column j0 (entry_of fb b.now ldb)) down k)) c.old }
 {
     if within(cols, cols, k, 8) {
         let mut t = [0.0f64; 64];
@@ -466,7 +466,7 @@ pub fn tiny(rows: usize, cols: usize, k: usize) -> bool
 
 // The product is tiny, and at most one factor is mirrored.
 pub fn is_tiny(fa: Form, fb: Form, rows: usize, cols: usize, k: usize) -> bool
-    ensures { result ≡ true → (isMirrored fa ≡ true → (rows ≤ 16) × (k ≤ 16) × (isMirrored fb ≡ false)) × (isMirrored fb ≡ true → (cols ≤ 16) × (k ≤ 16)) }
+    ensures { result ≡ true → (is_mirrored fa ≡ true → (rows ≤ 16) × (k ≤ 16) × (is_mirrored fb ≡ false)) × (is_mirrored fb ≡ true → (cols ≤ 16) × (k ≤ 16)) }
 {
     if mirror::is_mirrored(fa) & mirror::is_mirrored(fb) {
         return false;
@@ -476,7 +476,7 @@ pub fn is_tiny(fa: Form, fb: Form, rows: usize, cols: usize, k: usize) -> bool
 
 // The same of a product in one triangle, and no factor is mirrored.
 pub fn is_tiny_triangle(fa: Form, fb: Form, order: usize, k: usize) -> bool
-    ensures { result ≡ true → (isMirrored fa ≡ false) × (isMirrored fb ≡ false) }
+    ensures { result ≡ true → (is_mirrored fa ≡ false) × (is_mirrored fb ≡ false) }
 {
     if mirror::is_mirrored(fa) {
         return false;
@@ -506,9 +506,9 @@ pub fn direct(
     down: bool,
 )
     requires rows_nonzero { (0 < rows) × (rows ≤ ld) × (cols * ld + rows ≤ length c.old + ld) × (0 < cols) }
-    requires rows_bound { (i0 + rows < 18446744073709551616) × (j0 + cols < 18446744073709551616) × (isMirrored fa ≡ true → (rows ≤ 16) × (k ≤ 16) × (isMirrored fb ≡ false)) × (isMirrored fb ≡ true → (cols ≤ 16) × (k ≤ 16)) }
+    requires rows_bound { (i0 + rows < 18446744073709551616) × (j0 + cols < 18446744073709551616) × (is_mirrored fa ≡ true → (rows ≤ 16) × (k ≤ 16) × (is_mirrored fb ≡ false)) × (is_mirrored fb ≡ true → (cols ≤ 16) × (k ≤ 16)) }
     requires by_index { ((i l : ℕ) → i < rows → l < k → index_of fa lda (i0 + i) l < length a.now) × ((l j : ℕ) → l < k → j < cols → index_of fb ldb l (j0 + j) < length b.now) }
-    ensures { c.new ≡ update (region ld rows cols (product alpha (fromRow i0 (entry_of fa a.now lda)) (fromColumn j0 (entry_of fb b.now ldb)) down k)) c.old }
+    ensures { c.new ≡ update (region ld rows cols (product alpha (from_row i0 (entry_of fa a.now lda)) (from_column j0 (entry_of fb b.now ldb)) down k)) c.old }
 {
     if k == 0 {
         return;
@@ -548,9 +548,9 @@ pub fn triangle(
     alpha: f64,
 )
     requires order_nonzero { (0 < order) × (order ≤ ld) × (order * ld + order ≤ length c.old + ld) }
-    requires order_bound { (i0 + order < 18446744073709551616) × (j0 + order < 18446744073709551616) × (isMirrored fa ≡ false) × (isMirrored fb ≡ false) }
+    requires order_bound { (i0 + order < 18446744073709551616) × (j0 + order < 18446744073709551616) × (is_mirrored fa ≡ false) × (is_mirrored fb ≡ false) }
     requires by_index { ((i l : ℕ) → i < order → l < k → index_of fa lda (i0 + i) l < length a.now) × ((l j : ℕ) → l < k → j < order → index_of fb ldb l (j0 + j) < length b.now) }
-    ensures { c.new ≡ update (entries ld (only (corner lower order order) (product alpha (fromRow i0 (entry_of fa a.now lda)) (fromColumn j0 (entry_of fb b.now ldb)) false k))) c.old }
+    ensures { c.new ≡ update (entries ld (only (corner lower order order) (product alpha (from_row i0 (entry_of fa a.now lda)) (from_column j0 (entry_of fb b.now ldb)) false k))) c.old }
 {
     if k == 0 {
         return;

@@ -23,7 +23,7 @@ use Rattle.arrays.proofs.FoldLaws.{fold_same}
 use Rattle.floats.specs.Array.{at}
 use Rattle.packing.specs.Factor.{along}
 use Rattle.lines.specs.Lines.{cell, grid, within, Room}
-use Rattle.elements.specs.Sums.{termOf, begun, finished, lineSum, Summed}
+use Rattle.elements.specs.Sums.{term_of, begun, finished, line_sum, Summed}
 use Rattle.elements.specs.declared.Start.{Start}
 use Rattle.elements.specs.declared.End.{End}
 use Rattle.lines.proofs.GridLaws.{by-within, cell-inside, some-ld, grid-cell, grid-keep, grid-same}
@@ -163,11 +163,11 @@ module _ {A : Type 0} where
 
 -- one term more
 pub term-more : (left : Bool) (alpha : Float) (u v : ℕ → Float) (down : Bool) (from k : ℕ) {p : ℕ} (s : Float) {e r : Float} → p ≡ along down from k
-    → e ≡ fold (λ e k. termOf left alpha (u (along down from k)) e (v (along down from k))) k s → r ≡ termOf left alpha (u p) e (v p)
-    → r ≡ fold (λ e k. termOf left alpha (u (along down from k)) e (v (along down from k))) (k + 1) s
+    → e ≡ fold (λ e k. term_of left alpha (u (along down from k)) e (v (along down from k))) k s → r ≡ term_of left alpha (u p) e (v p)
+    → r ≡ fold (λ e k. term_of left alpha (u (along down from k)) e (v (along down from k))) (k + 1) s
 unfolding fold
 term-more left alpha u v down from k s ep ee er =
-    rw add-one (er ∙ ap₂ (λ (p : ℕ) (e : Float). termOf left alpha (u p) e (v p)) ep ee)
+    rw add-one (er ∙ ap₂ (λ (p : ℕ) (e : Float). term_of left alpha (u p) e (v p)) ep ee)
 
 module _ (left : Bool) (ld m i : ℕ) (alpha : Float) (start : Start) (end : End) (w : ℕ → Float) (p : ℕ → ℕ) (count : ℕ) where
   pub no_lines : (b : List Float) → Summed left ld m 0 i alpha start end w p count b b
@@ -178,7 +178,7 @@ module _ (left : Bool) (ld m i : ℕ) (alpha : Float) (start : Start) (end : End
       → across ≡ (if left then ld else 1) → a ≡ l * across → Room left ld m lines (length b)
       → Summed left ld m l i alpha start end w p count b c → Summed left ld m n i alpha start end w p count (take (length c - a) (drop a c)) ys
       → Summed left ld m (l + n) i alpha start end w p count b (put_mid a (length c - a) c ys)
-  unfolding lineSum
+  unfolding line_sum
   lines_more lines l n {a} b c ys hi hn h inside e ea room ec ey =
       grid-more nan left ld m lines l n _ b c ys pos room h e ea (lines-room left ld m lines l n (length b) (omega arith) hn h e ea room).0 ec
       (ey
@@ -188,7 +188,7 @@ module _ (left : Bool) (ld m i : ℕ) (alpha : Float) (start : Start) (end : End
       (ap (λ (z : Float). finished left alpha end z y)
       (fold_same _ _ count _
       (λ k hk z.
-      ap (termOf left alpha (w k) z)
+      ap (term_of left alpha (w k) z)
       (tail_at a c _ nan ∙ ap (at c) (cell-from left ld (p k) l l' e ea)
       ∙ grid-beyond nan left ld m lines l _ b c (p k) (l + l') room (inside k hk) (omega arith) (omega arith) ec))))))
     where
@@ -198,16 +198,16 @@ module _ (left : Bool) (ld m i : ℕ) (alpha : Float) (start : Start) (end : End
   -- element i of line l becomes its sum, after that of the lines before it
   pub line-more : (lines l : ℕ) (b c : List Float) (across step x : ℕ) (place : ℕ → ℕ) (s e v : Float) → Room left ld m lines (length b) → i < m → l < lines
       → across ≡ (if left then ld else 1) → step ≡ (if left then 1 else ld) → x ≡ i * step + l * across → ((k : ℕ) → place k ≡ p k * step + l * across)
-      → s ≡ begun left alpha start (at b x) → e ≡ fold (λ e k. termOf left alpha (w k) e (at b (place k))) count s
+      → s ≡ begun left alpha start (at b x) → e ≡ fold (λ e k. term_of left alpha (w k) e (at b (place k))) count s
       → v ≡ finished left alpha end e (at b x) → Summed left ld m l i alpha start end w p count b c
       → Summed left ld m (l + 1) i alpha start end w p count b (set c x v)
-  unfolding lineSum
+  unfolding line_sum
   line-more lines l b c across step x place s e v room hi hl ea es ex same eb ee ev ec =
       set_more nan left ld m lines i l sum b c room hi hl (ex ∙ cell-strides left ld i l ea es)
       (ev ∙ ap (λ (z : Float). finished left alpha end z (at b x))
-      (ee ∙ ap (fold (λ e k. termOf left alpha (w k) e (at b (place k))) count) eb
-      ∙ fold_same _ _ count _ (λ k hk z. ap (λ (n : ℕ). termOf left alpha (w k) z (at b n)) (same k ∙ cell-strides left ld (p k) l ea es))))
+      (ee ∙ ap (fold (λ e k. term_of left alpha (w k) e (at b (place k))) count) eb
+      ∙ fold_same _ _ count _ (λ k hk z. ap (λ (n : ℕ). term_of left alpha (w k) z (at b n)) (same k ∙ cell-strides left ld (p k) l ea es))))
       ec
     where
       sum : ℕ → Float → Float
-      sum l y = lineSum left alpha start end w (λ k. at b (cell left ld (p k) l)) count y
+      sum l y = line_sum left alpha start end w (λ k. at b (cell left ld (p k) l)) count y

@@ -3,9 +3,9 @@ ghost use Rattle.std.specs.Prelude.{◌≡◌, ℕ, ◌+◌, ◌*◌, ◌<◌, l
 ghost use Rattle.arrays.specs.Fold.{fold};
 ghost use Rattle.floats.specs.Array.{at};
 ghost use Rattle.packing.specs.Factor.{Indices, index_of, entry_of, along};
-ghost use Rattle.forms.specs.Forms.{opForm};
+ghost use Rattle.forms.specs.Forms.{op_form};
 ghost use Rattle.lines.specs.Lines.{coefficient, Room};
-ghost use Rattle.elements.specs.Sums.{termOf, begun, finished, Summed};
+ghost use Rattle.elements.specs.Sums.{term_of, begun, finished, Summed};
 
 use definitions::Transpose;
 use lines::triangle;
@@ -38,7 +38,7 @@ pub struct Lanes {
 
 // A term: w is the coefficient, x the value.
 fn term(left: bool, alpha: f64, w: f64, e: f64, x: f64) -> f64
-    ensures { result ≡ termOf left alpha w e x }
+    ensures { result ≡ term_of left alpha w e x }
 {
     if left {
         e + (alpha * x) * w
@@ -85,10 +85,10 @@ fn terms(
     count: usize,
 ) -> Lanes
     requires { Indices down from count × ((k : ℕ) → k < count → (along down from k * sa < length a.now) × (along down from k * step + 3 * across < length b.now)) }
-    ensures { (result.e ≡ fold (λ e k. termOf left alpha (at a.now (along down from k * sa)) e (at b.now (along down from k * step))) count s.e)
-        × (result.f ≡ fold (λ e k. termOf left alpha (at a.now (along down from k * sa)) e (at b.now (along down from k * step + across))) count s.f)
-        × (result.g ≡ fold (λ e k. termOf left alpha (at a.now (along down from k * sa)) e (at b.now (along down from k * step + 2 * across))) count s.g)
-        × (result.h ≡ fold (λ e k. termOf left alpha (at a.now (along down from k * sa)) e (at b.now (along down from k * step + 3 * across))) count s.h) }
+    ensures { (result.e ≡ fold (λ e k. term_of left alpha (at a.now (along down from k * sa)) e (at b.now (along down from k * step))) count s.e)
+        × (result.f ≡ fold (λ e k. term_of left alpha (at a.now (along down from k * sa)) e (at b.now (along down from k * step + across))) count s.f)
+        × (result.g ≡ fold (λ e k. term_of left alpha (at a.now (along down from k * sa)) e (at b.now (along down from k * step + 2 * across))) count s.g)
+        × (result.h ≡ fold (λ e k. term_of left alpha (at a.now (along down from k * sa)) e (at b.now (along down from k * step + 3 * across))) count s.h) }
 {
     let mut e = s.e;
     let mut f = s.f;
@@ -312,8 +312,8 @@ pub fn element(
     count: usize,
 )
     requires room { Room left ld m lines (length b.old) × (i < m) × Indices down from count × ((k : ℕ) → k < count → along down from k < m) }
-    requires by_index { (i j : ℕ) → i < m → j < m → index_of (opForm t) lda i j < length a.now }
-    ensures { Summed left ld m lines i alpha start end (λ k. coefficient left (entry_of (opForm t) a.now lda) i (along down from k)) (along down from) count b.old b.new }
+    requires by_index { (i j : ℕ) → i < m → j < m → index_of (op_form t) lda i j < length a.now }
+    ensures { Summed left ld m lines i alpha start end (λ k. coefficient left (entry_of (op_form t) a.now lda) i (along down from k)) (along down from) count b.old b.new }
 {
     let columns = triangle::are_columns(left, t);
     let row = arrays::pick(columns, lda, 1);

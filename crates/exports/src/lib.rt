@@ -4,8 +4,8 @@ ghost use Rattle.definitions.specs.Direct as Direct;
 ghost use Rattle.definitions.specs.Many as Many;
 ghost use Rattle.definitions.specs.Run as Run;
 ghost use Rattle.integer_solve.specs.Equations.{Numbered};
-ghost use Rattle.records.specs.Judgement.{sheetOf, arraysOf};
-ghost use Rattle.sheet.specs.Lent.{ranOf};
+ghost use Rattle.records.specs.Judgement.{sheet_of, arrays_of};
+ghost use Rattle.sheet.specs.Lent.{ran_of};
 
 use definitions::{ManyEnd, RunEnd, SolveEnd};
 
@@ -193,8 +193,8 @@ pub extern "C" fn tl_run(
     s: i32,
     budget: u32,
 ) -> RunEnd
-    ensures { ranOf result (arraysOf x.new y.new z.new) answers.new
-        ≡ Run.run (sheetOf sheet.now scalars.now) budget (arraysOf x.old y.old z.old) answers.old p s }
+    ensures { ran_of result (arrays_of x.new y.new z.new) answers.new
+        ≡ Run.run (sheet_of sheet.now scalars.now) budget (arrays_of x.old y.old z.old) answers.old p s }
 {
     sheet::run(sheet, scalars, x, y, z, answers, p, s, budget)
 }

@@ -15,9 +15,9 @@ use Rattle.definitions.specs.declared.Triangle.{Triangle}
 use Rattle.definitions.specs.declared.Triangle.TheVariants.{Lower, Upper}
 use Rattle.packing.specs.declared.Form.TheVariants.{Plain}
 use Rattle.packing.specs.Factor.{index_of, entry_of}
-use Rattle.forms.specs.Forms.{opForm, mirroredForm}
+use Rattle.forms.specs.Forms.{op_form, mirrored_form}
 
-pub op-entry : (t : Transpose) (a : List Float) (ld : ℕ) → op t (stored nan a ld) ≡ entry_of (opForm t) a ld
+pub op-entry : (t : Transpose) (a : List Float) (ld : ℕ) → op t (stored nan a ld) ≡ entry_of (op_form t) a ld
 unfolding op stored entry_of index_of
 op-entry No a ld = refl
 op-entry Yes a ld = refl
@@ -26,7 +26,7 @@ either : (a : List Float) (b : Bool) (p q : ℕ) → (if b then get_or a p nan e
 either a true p q = refl
 either a false p q = refl
 
-pub mirrored-entry : (t : Triangle) (a : List Float) (ld : ℕ) → mirrored t (stored nan a ld) ≡ entry_of (mirroredForm t) a ld
+pub mirrored-entry : (t : Triangle) (a : List Float) (ld : ℕ) → mirrored t (stored nan a ld) ≡ entry_of (mirrored_form t) a ld
 unfolding mirrored inside stored entry_of index_of
 mirrored-entry Lower a ld = λ k i j. either a (leb j i) (j * ld + i) (i * ld + j) k
 mirrored-entry Upper a ld = λ k i j. either a (leb i j) (j * ld + i) (i * ld + j) k

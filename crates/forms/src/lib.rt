@@ -1,16 +1,16 @@
 // How the kernel reads the matrices of a call.
 ghost use Rattle.std.specs.Prelude.{◌≡◌};
-ghost use Rattle.definitions.specs.Storage.{opTriangle};
-ghost use Rattle.definitions.specs.Element.{solvesUp};
+ghost use Rattle.definitions.specs.Storage.{op_triangle};
+ghost use Rattle.definitions.specs.Element.{solves_up};
 ghost use Rattle.definitions.specs.declared.Side.TheVariants.{Left};
-ghost use Rattle.forms.specs.Forms.{opForm, mirroredForm};
+ghost use Rattle.forms.specs.Forms.{op_form, mirrored_form};
 
 use definitions::{Transpose, Triangle};
 use packing::Form;
 
 // op(A).
 pub fn op_form(t: Transpose) -> Form
-    ensures { result ≡ opForm t }
+    ensures { result ≡ op_form t }
 {
     match t {
         Transpose::No => Form::Plain,
@@ -20,7 +20,7 @@ pub fn op_form(t: Transpose) -> Form
 
 // A symmetric A of which only one triangle is read.
 pub fn mirrored_form(t: Triangle) -> Form
-    ensures { result ≡ mirroredForm t }
+    ensures { result ≡ mirrored_form t }
 {
     match t {
         Triangle::Lower => Form::Lower,
@@ -30,7 +30,7 @@ pub fn mirrored_form(t: Triangle) -> Form
 
 // op(A), of which one triangle is stored, is lower.
 pub fn op_lower(t: Transpose, uplo: Triangle) -> bool
-    ensures { result ≡ solvesUp Left (opTriangle t uplo) }
+    ensures { result ≡ solves_up Left (op_triangle t uplo) }
 {
     match uplo {
         Triangle::Lower => match t {

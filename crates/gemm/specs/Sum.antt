@@ -3,7 +3,7 @@
 use Rattle.std.specs.Prelude.{ℕ, Float, false}
 use Rattle.arrays.specs.Choice.{if◌then◌else◌}
 use Rattle.arrays.specs.Update.{EntryMap}
-use Rattle.definitions.specs.Number.{isZero, factor, start}
+use Rattle.definitions.specs.Number.{is_zero, factor, start}
 use Rattle.definitions.specs.declared.Scalar.{Scalar}
 use Rattle.packing.specs.Factor.{Matrix}
 use Rattle.direct.specs.Product.{product}
@@ -12,4 +12,4 @@ unfoldable pub summed : Scalar → Scalar → Matrix → Matrix → ℕ → Entr
 summed alpha beta L R k i j x =
     let e = start beta x in
     let r = product (factor alpha) L R false k i j e in
-    if isZero alpha then e else r
+    if is_zero alpha then e else r

@@ -1,12 +1,12 @@
 // GEMM and SYMM: the update of one strip. The two differ in how the kernel reads their factors.
 ghost use Rattle.std.specs.Prelude.{◌≡◌, false, ℕ, ◌+◌, ◌*◌, ◌≤◌, ◌<◌, length};
 ghost use Rattle.arrays.specs.Update.{update, region};
-ghost use Rattle.definitions.specs.Number.{isZero};
+ghost use Rattle.definitions.specs.Number.{is_zero};
 ghost use Rattle.definitions.specs.Element.{StripOf};
 ghost use Rattle.definitions.specs.declared.Routine.TheVariants.{Gemm, Symm};
 ghost use Rattle.definitions.proofs.Fits.{Fits};
 ghost use Rattle.packing.specs.Factor.{index_of, entry_of};
-ghost use Rattle.direct.specs.Product.{fromColumn};
+ghost use Rattle.direct.specs.Product.{from_column};
 ghost use Rattle.gemm.specs.Sum.{summed};
 
 use definitions::{Call, Scalar, Side};
@@ -32,8 +32,8 @@ fn accumulate(
     r: usize,
 )
     requires rows_nonzero { (0 < rows) × (rows ≤ ld) × (cols * ld + rows ≤ length c.old + ld) × (0 < cols) × (cols ≤ 256) × (0 < r) × (r ≤ 64) × (from + cols < 18446744073709551616) }
-    requires l_in_bounds { (isZero alpha ≡ false → (i l : ℕ) → i < rows → l < k → index_of fa lda i l < length a.now) × (isZero alpha ≡ false → (l j : ℕ) → l < k → j < cols → index_of fb ldb l (from + j) < length b.now) }
-    ensures { c.new ≡ update (region ld rows cols (summed alpha beta (entry_of fa a.now lda) (fromColumn from (entry_of fb b.now ldb)) k)) c.old }
+    requires l_in_bounds { (is_zero alpha ≡ false → (i l : ℕ) → i < rows → l < k → index_of fa lda i l < length a.now) × (is_zero alpha ≡ false → (l j : ℕ) → l < k → j < cols → index_of fb ldb l (from + j) < length b.now) }
+    ensures { c.new ≡ update (region ld rows cols (summed alpha beta (entry_of fa a.now lda) (from_column from (entry_of fb b.now ldb)) k)) c.old }
 {
     start::region(c, ld, rows, cols, beta);
     if alpha.is_zero() {

@@ -12,14 +12,14 @@ use borrow.Author.Tests.{ltb-false, eqb-true, not-false}
 use Rattle.arrays.specs.Choice.{if◌then◌else◌}
 use Rattle.arrays.proofs.Tests.{or_left, or_right}
 use Rattle.definitions.specs.Check.{nat, 'L', 'U', is}
-use Rattle.integer_solve.specs.Equations.{bad_order, badLength, zeroDiagonal, refusal}
+use Rattle.integer_solve.specs.Equations.{bad_order, bad_length, zero_diagonal, refusal}
 
 pub order-within : (n : ℤ) → bad_order n ≡ false → nat n ≤ 64
 unfolding bad_order
 order-within n h = ltb-false 64 (nat n) (or_right (ltb (nat n) 1) (ltb 64 (nat n)) h)
 
-pub lengths-fit : (n a b x : ℕ) → badLength n a b x ≡ false → (a ≡ n * n) × (b ≡ n) × (x ≡ n)
-unfolding badLength
+pub lengths-fit : (n a b x : ℕ) → bad_length n a b x ≡ false → (a ≡ n * n) × (b ≡ n) × (x ≡ n)
+unfolding bad_length
 lengths-fit n a b x h =
     let u = not (eqb a (n * n)) in
     let v = not (eqb b n) in
@@ -37,6 +37,6 @@ all_pass false false false h = (refl, refl, refl)
 
 -- a call that is not refused passes the three tests
 pub passed : (uplo n : ℤ) (a : List ℤ) (b x : ℕ) → refusal uplo n a b x ≡ 0
-    → ((bad_order n || not (is 'L' uplo || is 'U' uplo)) ≡ false) × (badLength (nat n) (length a) b x ≡ false) × (zeroDiagonal (nat n) a ≡ false)
+    → ((bad_order n || not (is 'L' uplo || is 'U' uplo)) ≡ false) × (bad_length (nat n) (length a) b x ≡ false) × (zero_diagonal (nat n) a ≡ false)
 unfolding refusal
 passed uplo n a b x h = all_pass _ _ _ h

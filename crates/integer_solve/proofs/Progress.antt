@@ -23,7 +23,7 @@ use Rattle.definitions.specs.Storage.{stored, inside}
 use Rattle.definitions.specs.declared.Triangle.{Triangle}
 use Rattle.packing.specs.Factor.{turn}
 use Rattle.packing.proofs.FactorLaws.{turn_below, turn-turn}
-use Rattle.integer_solve.specs.Equations.{entry, leftSide, Word, Solves, zeroDiagonal}
+use Rattle.integer_solve.specs.Equations.{entry, left_side, Word, Solves, zero_diagonal}
 use Rattle.integer_solve.specs.Elimination.{triangle, taken, Eliminated}
 use Rattle.integer_solve.proofs.Integers.{swap, cancel, less-more, product-cancel}
 use Rattle.integer_solve.proofs.Taking.{entry_in, entry-out, taken_here, taken-beside}
@@ -68,8 +68,8 @@ on-diagonal true i = le-leb i i (omega arith)
 entry-diagonal : (down : Bool) (n : ℕ) (a : List ℤ) (i : ℕ) → entry (triangle down) n a i i ≡ get_or a (i * n + i) (pos 0)
 entry-diagonal down n a i = entry_in (triangle down) n a i i (on-diagonal down i)
 
-pub diagonal-some : (n : ℕ) (a : List ℤ) → zeroDiagonal n a ≡ false → (i : ℕ) → i < n → get_or a (i * n + i) (pos 0) ≡ pos 0 → ⊥
-unfolding zeroDiagonal stored
+pub diagonal-some : (n : ℕ) (a : List ℤ) → zero_diagonal n a ≡ false → (i : ℕ) → i < n → get_or a (i * n + i) (pos 0) ≡ pos 0 → ⊥
+unfolding zero_diagonal stored
 diagonal-some n a h i c e = eqb-false _ 0 ((lowest-is _ n).before i (lt_of_lt_of_le c (ltb-false _ n h))) (ap nat_abs e)
 
 -- ---- the equations, with the first q unknowns solved
@@ -132,7 +132,7 @@ module _ (down : Bool) (n : ℕ) where
     module _ (s : List ℤ) {a b x : List ℤ} (v : Solves (triangle down) n a b x)
         (same : (i : ℕ) → i < n → turn down n i < q → get_or x i (pos 0) ≡ get_or s i (pos 0)) where
       pub equation-at : get_or a (j * n + j) (pos 0) *ℤ get_or x j (pos 0) +ℤ share a s q j ≡ get_or b j (pos 0)
-      unfolding leftSide
+      unfolding left_side
       equation-at =
           let f : ℕ → ℤ = λ p. entry (triangle down) n a j p *ℤ get_or x p (pos 0) in
           let all =
@@ -224,17 +224,17 @@ module _ {down : Bool} {n q j : ℕ} {a b s : List ℤ} (P : Progress down n a b
     }
 
 pub progress-end : {down : Bool} {n : ℕ} {a b s : List ℤ} → Progress down n a b n s → Eliminated (triangle down) n a b s true
-unfolding share leftSide
+unfolding share left_side
 progress-end {down} {n} {a} {b} {s} P = (
   (λ i c. P.words i c (turn_below down n i c)),
   λ i c.
-      let all : leftSide (triangle down) n a s i ≡ share down n a s n i = sum_same _ _ n (λ j d. sym (if-solved down n n j _ _ (turn_below down n j d))) in
+      let all : left_side (triangle down) n a s i ≡ share down n a s n i = sum_same _ _ n (λ j d. sym (if-solved down n n j _ _ (turn_below down n j d))) in
       cc (all, rest-solved down n s n i (turn_below down n i c), +ℤ_idl (share down n a s n i), P.balance i c),
 )
 
 -- the values, copied to a list of n elements
 pub eliminated-solves : (t : Triangle) (n : ℕ) (a b s x y : List ℤ) → Eliminated t n a b s true → length x ≡ n → y ≡ update (λ i _. get_or s i (pos 0)) x → Solves t n a b y
-unfolding leftSide
+unfolding left_side
 eliminated-solves t n a b s x y h l e = record {
   order = ap length e ∙ length-update _ x ∙ l;
   words = λ j c. rw (at j c) (h.0 j c);

@@ -16,11 +16,11 @@ use Rattle.arrays.proofs.UpdateLaws.{lt-or-ge, same_or_not, length-update, at-up
 use Rattle.definitions.specs.Storage.{stored, inside}
 use Rattle.definitions.specs.declared.Triangle.{Triangle}
 use Rattle.integer_solve.specs.Equations.{entry}
-use Rattle.integer_solve.specs.Elimination.{triangle, firstOpen, endOpen, lessTerm, taken}
+use Rattle.integer_solve.specs.Elimination.{triangle, first_open, end_open, less_term, taken}
 use Rattle.integer_solve.proofs.Words.{term-before, term-from}
 
-pub open-within : (down : Bool) (n j : ℕ) → j < n → (firstOpen down j ≤ endOpen down n j) × (endOpen down n j ≤ n)
-unfolding firstOpen endOpen
+pub open-within : (down : Bool) (n j : ℕ) → j < n → (first_open down j ≤ end_open down n j) × (end_open down n j ≤ n)
+unfolding first_open end_open
 open-within true n j h = (omega arith, omega arith)
 open-within false n j h = (omega arith, omega arith)
 
@@ -46,42 +46,42 @@ taken-behind : (down : Bool) (n : ℕ) (a : List ℤ) (j : ℕ) (x : ℤ) (i : �
 unfolding taken
 taken-behind down n a j x i s other h = rw (ne_eqb i j other, le-ltb i n h)
 
-inside-open : (down : Bool) (n j p : ℕ) → firstOpen down j ≤ p → p < endOpen down n j → inside (triangle down) p j ≡ true
-unfolding firstOpen endOpen inside triangle
+inside-open : (down : Bool) (n j p : ℕ) → first_open down j ≤ p → p < end_open down n j → inside (triangle down) p j ≡ true
+unfolding first_open end_open inside triangle
 inside-open true n j p h k = le-leb p j (omega arith)
 inside-open false n j p h k = le-leb j p (omega arith)
 
-outside-open : (down : Bool) (n j p : ℕ) → p < n → (p ≡ j → ⊥) → (firstOpen down j ≤ p → p < endOpen down n j → ⊥) → inside (triangle down) p j ≡ false
-unfolding firstOpen endOpen inside triangle
+outside-open : (down : Bool) (n j p : ℕ) → p < n → (p ≡ j → ⊥) → (first_open down j ≤ p → p < end_open down n j → ⊥) → inside (triangle down) p j ≡ false
+unfolding first_open end_open inside triangle
 outside-open true n j p b other out = lt-leb p j (⊎_elim (λ h. absurd (out (omega arith) h)) (λ h. lt_of_le-ne h (λ e. other (sym e))) (lt-or-ge p j))
 outside-open false n j p b other out =
     lt-leb j p (⊎_elim (λ h. h) (λ h. let k = lt_of_le-ne h (λ e. other (sym e)) in absurd (out (omega arith) b)) (lt-or-ge p j))
 
 -- the remainder of another equation, open or not
 less : (down : Bool) (n : ℕ) (a : List ℤ) (j : ℕ) (x : ℤ) (p : ℕ) (z : ℤ) → p < n → (p ≡ j → ⊥)
-    → below (endOpen down n j) (lessTerm a (j * n) x (firstOpen down j)) p z ≡ z -ℤ entry (triangle down) n a p j *ℤ x
+    → below (end_open down n j) (less_term a (j * n) x (first_open down j)) p z ≡ z -ℤ entry (triangle down) n a p j *ℤ x
 less down n a j x p z b other =
     ⊎_elim
-    (λ (h : p < firstOpen down j). unless (λ k. term-before a (j * n) x (firstOpen down j) p z h) ∙ kept (λ f g. omega arith))
-    (λ h. ⊎_elim (λ k. below_in _ _ p z k ∙ term-from a (j * n) x (firstOpen down j) p z h ∙ met h k) (λ k. below_out _ _ p z k ∙ kept (λ f g. omega arith)) (lt-or-ge p (endOpen down n j)))
-    (lt-or-ge p (firstOpen down j))
+    (λ (h : p < first_open down j). unless (λ k. term-before a (j * n) x (first_open down j) p z h) ∙ kept (λ f g. omega arith))
+    (λ h. ⊎_elim (λ k. below_in _ _ p z k ∙ term-from a (j * n) x (first_open down j) p z h ∙ met h k) (λ k. below_out _ _ p z k ∙ kept (λ f g. omega arith)) (lt-or-ge p (end_open down n j)))
+    (lt-or-ge p (first_open down j))
   where
     F : ℕ → ℤ → ℤ
-    F = lessTerm a (j * n) x (firstOpen down j)
+    F = less_term a (j * n) x (first_open down j)
 
-    unless : (p < endOpen down n j → F p z ≡ z) → below (endOpen down n j) F p z ≡ z
-    unless e = ⊎_elim (λ k. below_in _ _ p z k ∙ e k) (λ k. below_out _ _ p z k) (lt-or-ge p (endOpen down n j))
+    unless : (p < end_open down n j → F p z ≡ z) → below (end_open down n j) F p z ≡ z
+    unless e = ⊎_elim (λ k. below_in _ _ p z k ∙ e k) (λ k. below_out _ _ p z k) (lt-or-ge p (end_open down n j))
 
-    met : firstOpen down j ≤ p → p < endOpen down n j → z -ℤ get_or a (j * n + p) (pos 0) *ℤ x ≡ z -ℤ entry (triangle down) n a p j *ℤ x
+    met : first_open down j ≤ p → p < end_open down n j → z -ℤ get_or a (j * n + p) (pos 0) *ℤ x ≡ z -ℤ entry (triangle down) n a p j *ℤ x
     met h k = ap (λ (u : ℤ). z -ℤ u *ℤ x) (sym (entry_in (triangle down) n a p j (inside-open down n j p h k)))
 
-    kept : (firstOpen down j ≤ p → p < endOpen down n j → ⊥) → z ≡ z -ℤ entry (triangle down) n a p j *ℤ x
+    kept : (first_open down j ≤ p → p < end_open down n j → ⊥) → z ≡ z -ℤ entry (triangle down) n a p j *ℤ x
     kept out =
         sym (ap (λ (u : ℤ). z -ℤ u *ℤ x) (entry-out (triangle down) n a p j (outside-open down n j p b other out))
         ∙ ap (λ (u : ℤ). z -ℤ u) (zero-*ℤ x) ∙ +ℤ_idr z)
 
 pub taken_is : (down : Bool) (n : ℕ) (a : List ℤ) (j : ℕ) (x : ℤ) (s m : List ℤ) → j < length s
-    → m ≡ update (below (endOpen down n j) (lessTerm a (j * n) x (firstOpen down j))) s → endOpen down n j ≤ n → set m j x ≡ update (taken down n a j x) s
+    → m ≡ update (below (end_open down n j) (less_term a (j * n) x (first_open down j))) s → end_open down n j ≤ n → set m j x ≡ update (taken down n a j x) s
 taken_is down n a j x s m b e le =
     is-update (pos 0) (taken down n a j x) s (set m j x) (length-set m j x ∙ ml)
     (λ p h. ⊎_elim (λ z. here p h z) (λ other. ⊎_elim (λ k. beside p h other k) (λ k. behind p h other k) (lt-or-ge p n)) (same_or_not p j))
@@ -89,7 +89,7 @@ taken_is down n a j x s m b e le =
     ml : length m ≡ length s
     ml = ap length e ∙ length-update _ s
 
-    old : (p : ℕ) → p < length s → get_or m p (pos 0) ≡ below (endOpen down n j) (lessTerm a (j * n) x (firstOpen down j)) p (get_or s p (pos 0))
+    old : (p : ℕ) → p < length s → get_or m p (pos 0) ≡ below (end_open down n j) (less_term a (j * n) x (first_open down j)) p (get_or s p (pos 0))
     old p h = ap (λ (l : List ℤ). get_or l p (pos 0)) e ∙ at-update _ s p (pos 0) h
 
     here : (p : ℕ) → p < length s → p ≡ j → get_or (set m j x) p (pos 0) ≡ taken down n a j x p (get_or s p (pos 0))

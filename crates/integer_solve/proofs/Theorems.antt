@@ -9,12 +9,12 @@ use native.Mathlib.Omega.{arith}
 use lib.IntN.{ℤ, pos, negsuc, nat_abs, pos-ne-negsuc}
 use lib.ListN.{length, get_or}
 use lib.Seq.{ext_get_or}
-use Rattle.definitions.specs.Check.{nat, uploOf}
+use Rattle.definitions.specs.Check.{nat, uplo_of}
 use Rattle.definitions.specs.declared.Triangle.{Triangle}
 use Rattle.definitions.specs.declared.Triangle.TheVariants.{Lower, Upper}
 use Rattle.packing.specs.Factor.{turn}
 use Rattle.packing.proofs.FactorLaws.{turn_below}
-use Rattle.integer_solve.specs.Equations.{Solves, zeroDiagonal, refusal, Answers, number, Numbered}
+use Rattle.integer_solve.specs.Equations.{Solves, zero_diagonal, refusal, Answers, number, Numbered}
 use Rattle.integer_solve.specs.Elimination.{triangle}
 use Rattle.integer_solve.specs.declared.Answer.{Answer}
 use Rattle.integer_solve.specs.declared.Answer.TheVariants.{Solved, None, Refused}
@@ -23,7 +23,7 @@ use Rattle.integer_solve.proofs.Progress.{solved-more, equation-at, one_value, d
 
 -- ---- one X
 
-module _ (down : Bool) {n : ℕ} {a b x y : List ℤ} (some : zeroDiagonal n a ≡ false) (v : Solves (triangle down) n a b x)
+module _ (down : Bool) {n : ℕ} {a b x y : List ℤ} (some : zero_diagonal n a ≡ false) (v : Solves (triangle down) n a b x)
     (w : Solves (triangle down) n a b y) where
   -- two solutions agree on the first q unknowns
   agree : (q : ℕ) → q ≤ n → (i : ℕ) → i < n → turn down n i < q → get_or x i (pos 0) ≡ get_or y i (pos 0)
@@ -39,7 +39,7 @@ module _ (down : Bool) {n : ℕ} {a b x y : List ℤ} (some : zeroDiagonal n a �
       ext_get_or (pos 0) x y (v.order ∙ sym w.order)
       (λ i c. let d : i < n = omega (arith, v.order) in agree n (omega arith) i d (turn_below down n i d))
 
-pub only_one : {t : Triangle} {n : ℕ} {a b x y : List ℤ} → zeroDiagonal n a ≡ false → Solves t n a b x → Solves t n a b y → x ≡ y
+pub only_one : {t : Triangle} {n : ℕ} {a b x y : List ℤ} → zero_diagonal n a ≡ false → Solves t n a b x → Solves t n a b y → x ≡ y
 unfolding triangle
 only_one {t = Lower} some v w = one_list false some v w
 only_one {t = Upper} some v w = one_list true some v w
@@ -67,32 +67,32 @@ module _ (uplo n : ℤ) (a b x : List ℤ) where
 
   module _ {r : ℤ} {y : List ℤ} (v : Numbered uplo n a b x r y) where
     -- 0 only if X is written
-    pub zero-only : r ≡ pos 0 → Solves (uploOf uplo) (nat n) a b y
+    pub zero-only : r ≡ pos 0 → Solves (uplo_of uplo) (nat n) a b y
     unfolding number
     zero-only e = by_answer v.answer v.answers (sym v.is_number ∙ e)
       where
-        by_answer : (q : Answer) → Answers uplo n a b x q y → number q ≡ pos 0 → Solves (uploOf uplo) (nat n) a b y
+        by_answer : (q : Answer) → Answers uplo n a b x q y → number q ≡ pos 0 → Solves (uplo_of uplo) (nat n) a b y
         by_answer Solved w o = w.1
         by_answer None w o = absurd (pos-ne-negsuc 0 0 (sym o))
         by_answer (Refused k) w o = absurd (omega (arith, ap nat_abs o))
 
     -- −1 only if there is none
-    pub none_only : r ≡ negsuc 0 → (z : List ℤ) → Solves (uploOf uplo) (nat n) a b z → ⊥
+    pub none_only : r ≡ negsuc 0 → (z : List ℤ) → Solves (uplo_of uplo) (nat n) a b z → ⊥
     unfolding number
     none_only e = by_answer v.answer v.answers (sym v.is_number ∙ e)
       where
-        by_answer : (q : Answer) → Answers uplo n a b x q y → number q ≡ negsuc 0 → (z : List ℤ) → Solves (uploOf uplo) (nat n) a b z → ⊥
+        by_answer : (q : Answer) → Answers uplo n a b x q y → number q ≡ negsuc 0 → (z : List ℤ) → Solves (uplo_of uplo) (nat n) a b z → ⊥
         by_answer Solved w o = absurd (pos-ne-negsuc 0 0 o)
         by_answer None w o = w.1
         by_answer (Refused k) w o = absurd (pos-ne-negsuc k 0 o)
 
     module _ (h : refusal uplo n a (length b) (length x) ≡ 0) where
       -- 0, and that X, if there is one and the call is not refused
-      pub zero-exactly : (z : List ℤ) → Solves (uploOf uplo) (nat n) a b z → (r ≡ pos 0) × (y ≡ z)
+      pub zero-exactly : (z : List ℤ) → Solves (uplo_of uplo) (nat n) a b z → (r ≡ pos 0) × (y ≡ z)
       unfolding number
       zero-exactly z w = one_number v (record { answer = Solved; is_number = refl; answers = (h, w) })
 
       -- −1 if there is none and the call is not refused
-      pub none-exactly : ((z : List ℤ) → Solves (uploOf uplo) (nat n) a b z → ⊥) → (r ≡ negsuc 0) × (y ≡ x)
+      pub none-exactly : ((z : List ℤ) → Solves (uplo_of uplo) (nat n) a b z → ⊥) → (r ≡ negsuc 0) × (y ≡ x)
       unfolding number
       none-exactly w = one_number v (record { answer = None; is_number = refl; answers = (h, w, refl) })

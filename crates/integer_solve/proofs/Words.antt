@@ -18,7 +18,7 @@ use mir.Val.{SFits, to_z, of_z}
 use mir.ValLaws.{to_z-of_z}
 use Rattle.arrays.proofs.UpdateLaws.{lt-or-ge, same_or_not}
 use Rattle.integer_solve.specs.Equations.{Word}
-use Rattle.integer_solve.specs.Elimination.{term, Grown, lessTerm}
+use Rattle.integer_solve.specs.Elimination.{term, Grown, less_term}
 use Rattle.integer_solve.proofs.Integers.{abs-less, abs-product}
 
 pub word_fits : {z : ℤ} → Word z → mag z < 32768
@@ -78,10 +78,10 @@ grown-set l m i w grown b h p =
     (same_or_not p i)
 
 -- the elements before lo, and from there on
-pub term-before : (a : List ℤ) (at : ℕ) (x : ℤ) (lo i : ℕ) (s : ℤ) → i < lo → lessTerm a at x lo i s ≡ s
-unfolding lessTerm
+pub term-before : (a : List ℤ) (at : ℕ) (x : ℤ) (lo i : ℕ) (s : ℤ) → i < lo → less_term a at x lo i s ≡ s
+unfolding less_term
 term-before a at x lo i s h = rw (lt-leb lo i h)
 
-pub term-from : (a : List ℤ) (at : ℕ) (x : ℤ) (lo i : ℕ) (s : ℤ) → lo ≤ i → lessTerm a at x lo i s ≡ s -ℤ get_or a (at + i) (pos 0) *ℤ x
-unfolding lessTerm
+pub term-from : (a : List ℤ) (at : ℕ) (x : ℤ) (lo i : ℕ) (s : ℤ) → lo ≤ i → less_term a at x lo i s ≡ s -ℤ get_or a (at + i) (pos 0) *ℤ x
+unfolding less_term
 term-from a at x lo i s h = rw (le-leb lo i h)

@@ -3,7 +3,7 @@ ghost use Rattle.std.specs.Prelude.{◌≡◌, true, false, ◌+◌, ◌*◌, �
 ghost use Rattle.arrays.specs.Choice.{if◌then◌else◌};
 ghost use Rattle.arrays.specs.Update.{update, below};
 ghost use Rattle.integer_solve.specs.Equations as Equations;
-ghost use Rattle.integer_solve.specs.Elimination.{triangle, Words, term, room, Small, Grown, firstOpen, endOpen, lessTerm, taken, QuotientOf, Eliminated};
+ghost use Rattle.integer_solve.specs.Elimination.{triangle, Words, term, room, Small, Grown, first_open, end_open, less_term, taken, QuotientOf, Eliminated};
 
 use definitions::Triangle;
 
@@ -35,7 +35,7 @@ fn bad_order(n: i32) -> bool
 // A length that does not fit the order.
 fn bad_length(n: usize, a: usize, b: usize, x: usize) -> bool
     requires { n ≤ 64 }
-    ensures { result ≡ Equations.badLength n a b x }
+    ensures { result ≡ Equations.bad_length n a b x }
 {
     (a != n * n) | (b != n) | (x != n)
 }
@@ -43,7 +43,7 @@ fn bad_length(n: usize, a: usize, b: usize, x: usize) -> bool
 // A zero on the diagonal of A, wherever it stands.
 fn zero_diagonal(a: &[i16], n: usize) -> bool
     requires { n * n ≤ length a.now }
-    ensures { result ≡ Equations.zeroDiagonal n a.now }
+    ensures { result ≡ Equations.zero_diagonal n a.now }
 {
     let mut i = 0;
     while i < n {
@@ -101,7 +101,7 @@ fn less(s: i64, u: i16, x: i16) -> i64
 // The terms of one unknown are taken from the remainders from lo on and below hi; its column begins at element `at` of A.
 fn subtract(s: &mut [i64], a: &[i16], at: usize, x: i16, lo: usize, hi: usize)
     requires { (lo ≤ hi) × (hi ≤ length s.old) × (at + hi ≤ length a.now) × Small hi s.old }
-    ensures { (s.new ≡ update (below hi (lessTerm a.now at x lo)) s.old) × Grown s.old s.new }
+    ensures { (s.new ≡ update (below hi (less_term a.now at x lo)) s.old) × Grown s.old s.new }
 {
     let mut i = lo;
     while i < hi {
@@ -113,13 +113,13 @@ fn subtract(s: &mut [i64], a: &[i16], at: usize, x: i16, lo: usize, hi: usize)
 // The equations that are open once unknown j is solved: the first of them, and one past the last.
 fn first_open(down: bool, j: usize) -> usize
     requires { j < 64 }
-    ensures { result ≡ firstOpen down j }
+    ensures { result ≡ first_open down j }
 {
     if down { 0 } else { j + 1 }
 }
 
 fn end_open(down: bool, n: usize, j: usize) -> usize
-    ensures { result ≡ endOpen down n j }
+    ensures { result ≡ end_open down n j }
 {
     if down { j } else { n }
 }
@@ -149,7 +149,7 @@ fn widen(s: &mut [i64], b: &[i16])
 
 // Solves one unknown after the other, until one has no value.
 fn eliminate(down: bool, n: usize, a: &[i16], b: &[i16], s: &mut [i64]) -> bool
-    requires { (n ≤ 64) × (length b.now ≡ n) × (n ≤ length s.old) × (length a.now ≡ n * n) × (Equations.zeroDiagonal n a.now ≡ false) }
+    requires { (n ≤ 64) × (length b.now ≡ n) × (n ≤ length s.old) × (length a.now ≡ n * n) × (Equations.zero_diagonal n a.now ≡ false) }
     ensures { Eliminated (triangle down) n a.now b.now s.new result }
 {
     widen(s, b);

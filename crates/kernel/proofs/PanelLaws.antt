@@ -13,9 +13,9 @@ use Rattle.arrays.proofs.EntryLaws.{only_then}
 use Rattle.arrays.proofs.RegionLaws.{region-same, region-then, region-rows}
 use Rattle.floats.specs.Operations.{◌⊗◌}
 use Rattle.blocks.specs.Terms.{packed}
-use Rattle.kernel.specs.Panels.{halfPacked}
+use Rattle.kernel.specs.Panels.{half_packed}
 use Rattle.packing.specs.Factor.{turn, Matrix, entry_of, along}
-use Rattle.direct.specs.Product.{fromColumn, partly}
+use Rattle.direct.specs.Product.{from_column, partly}
 use Rattle.arrays.proofs.TrapezoidLaws.{is-box}
 use Rattle.packing.specs.declared.Form.{Form}
 use Rattle.packing.proofs.FactorLaws.{along-up, turn_along}
@@ -27,13 +27,13 @@ pub rows_more : (ld i h cols n : ℕ) (M L : Matrix) (u₀ u t l m ys : List Flo
     → 0 < ld → i + h ≤ ld → i ≤ length l → h ≤ 64 → n * 64 ≤ length u₀
     → u ≡ update (region 64 h n (λ y x _. M y x)) u₀
     → ((y x : ℕ) → M y x ≡ L (i + y) x)
-    → m ≡ update (region ld i cols (halfPacked n t L)) l
+    → m ≡ update (region ld i cols (half_packed n t L)) l
     → ys ≡ update (region ld h cols (packed n u t)) (take (length m - i) (drop i m))
-    → put_mid i (length m - i) m ys ≡ update (region ld (i + h) cols (halfPacked n t L)) l
-unfolding packed halfPacked
+    → put_mid i (length m - i) m ys ≡ update (region ld (i + h) cols (half_packed n t L)) l
+unfolding packed half_packed
 rows_more ld i h cols n M L u₀ u t l m ys pos il ll hh hu eu el em ey =
-    region-rows nan ld pos i h cols (halfPacked n t L) l m ys il ll em
-    (ey ∙ region-same ld h cols (packed n u t) (λ r j e. halfPacked n t L (i + r) j e) (take (length m - i) (drop i m)) pos
+    region-rows nan ld pos i h cols (half_packed n t L) l m ys il ll em
+    (ey ∙ region-same ld h cols (packed n u t) (λ r j e. half_packed n t L (i + r) j e) (take (length m - i) (drop i m)) pos
     (λ r j hr hj e. accumulate-same _ _ _ _ n e (λ q b. refl) (λ q b. held 64 h n M u₀ u r q hh hu eu hr b ∙ el r q)))
 
 -- ---- a panel of terms more, on a mask
@@ -48,12 +48,12 @@ scaled alpha n cols M t₀ t₁ t e₁ e =
 -- n terms more, whose right block is packed in t; the mask has at most `cols` columns
 module _ (mask : Mask) (cols : ℕ) (few : (i j : ℕ) → mask i j ≡ true → j < cols) (alpha : Float) (A : Matrix) (fb : Form) (b : List Float) (ldb j₀ : ℕ) (down : Bool) (k ld : ℕ) where
   pub masked-next : (l n l₀ : ℕ) (c₀ t₀ t₁ t m r : List Float) → 0 < ld → n ≤ 64 → cols * 64 ≤ length t₀ → l₀ ≡ turn down k l
-      → m ≡ update (entries ld (only mask (partly alpha A (fromColumn j₀ (entry_of fb b ldb)) down k l))) c₀
+      → m ≡ update (entries ld (only mask (partly alpha A (from_column j₀ (entry_of fb b ldb)) down k l))) c₀
       → t₁ ≡ update (region 64 n cols (λ y x _. entry_of fb b ldb (along down l₀ y) (along false j₀ x))) t₀
       → t ≡ update (region 64 n cols (λ q j x. alpha ⊗ x)) t₁
-      → r ≡ update (entries ld (only mask (halfPacked n t (λ i q. A i (along down l₀ q))))) m
-      → r ≡ update (entries ld (only mask (partly alpha A (fromColumn j₀ (entry_of fb b ldb)) down k (l + n)))) c₀
-  unfolding partly halfPacked
+      → r ≡ update (entries ld (only mask (half_packed n t (λ i q. A i (along down l₀ q))))) m
+      → r ≡ update (entries ld (only mask (partly alpha A (from_column j₀ (entry_of fb b ldb)) down k (l + n)))) c₀
+  unfolding partly half_packed
   masked-next l n l₀ c₀ t₀ t₁ t m r pos hn hl e em e₁ et er =
       only_then ld mask _ _ _ c₀ m r pos em er
       (λ i j h x.
@@ -68,10 +68,10 @@ module _ (mask : Mask) (cols : ℕ) (few : (i j : ℕ) → mask i j ≡ true →
 -- the same in a rectangle
 module _ (alpha : Float) (A : Matrix) (fb : Form) (b : List Float) (ldb j₀ : ℕ) (down : Bool) (k ld rows cols : ℕ) where
   pub panel-next : (l n l₀ : ℕ) (c₀ t₀ t₁ t m r : List Float) → 0 < ld → n ≤ 64 → cols * 64 ≤ length t₀ → l₀ ≡ turn down k l
-      → m ≡ update (region ld rows cols (partly alpha A (fromColumn j₀ (entry_of fb b ldb)) down k l)) c₀
+      → m ≡ update (region ld rows cols (partly alpha A (from_column j₀ (entry_of fb b ldb)) down k l)) c₀
       → t₁ ≡ update (region 64 n cols (λ y x _. entry_of fb b ldb (along down l₀ y) (along false j₀ x))) t₀
       → t ≡ update (region 64 n cols (λ q j x. alpha ⊗ x)) t₁
-      → r ≡ update (region ld rows cols (halfPacked n t (λ i q. A i (along down l₀ q)))) m
-      → r ≡ update (region ld rows cols (partly alpha A (fromColumn j₀ (entry_of fb b ldb)) down k (l + n))) c₀
+      → r ≡ update (region ld rows cols (half_packed n t (λ i q. A i (along down l₀ q)))) m
+      → r ≡ update (region ld rows cols (partly alpha A (from_column j₀ (entry_of fb b ldb)) down k (l + n))) c₀
   unfolding region
   panel-next = masked-next (box rows cols) cols (λ i j h. (is-box rows cols i j h).1) alpha A fb b ldb j₀ down k ld

@@ -2,7 +2,7 @@
 ghost use Rattle.std.specs.Prelude.{◌≡◌, ℕ, ◌+◌, ◌*◌, ◌≤◌, ◌<◌, length};
 ghost use Rattle.arrays.specs.Update.{update, region};
 ghost use Rattle.packing.specs.Factor.{index_of, entry_of};
-ghost use Rattle.direct.specs.Product.{fromRow, fromColumn, product};
+ghost use Rattle.direct.specs.Product.{from_row, from_column, product};
 
 pub mod panels;
 
@@ -31,7 +31,7 @@ pub fn multiply(
     requires rows_nonzero { (0 < rows) × (rows ≤ ld) × (cols * ld + rows ≤ length c.old + ld) × (0 < cols) × (cols ≤ 256) × (0 < r) × (r ≤ 64) }
     requires rows_bound { (i0 + rows < 18446744073709551616) × (j0 + cols < 18446744073709551616) }
     requires by_index { ((i l : ℕ) → i < rows → l < k → index_of fa lda (i0 + i) l < length a.now) × ((l j : ℕ) → l < k → j < cols → index_of fb ldb l (j0 + j) < length b.now) }
-    ensures { c.new ≡ update (region ld rows cols (product alpha (fromRow i0 (entry_of fa a.now lda)) (fromColumn j0 (entry_of fb b.now ldb)) down k)) c.old }
+    ensures { c.new ≡ update (region ld rows cols (product alpha (from_row i0 (entry_of fa a.now lda)) (from_column j0 (entry_of fb b.now ldb)) down k)) c.old }
 {
     if direct::is_tiny(fa, fb, rows, cols, k) {
         direct::direct(

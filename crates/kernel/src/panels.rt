@@ -2,8 +2,8 @@
 ghost use Rattle.std.specs.Prelude.{◌≡◌, false, ℕ, ◌+◌, ◌*◌, ◌≤◌, ◌<◌, length};
 ghost use Rattle.arrays.specs.Update.{update, region};
 ghost use Rattle.packing.specs.Factor.{Indices, index_of, entry_of, along};
-ghost use Rattle.kernel.specs.Panels.{halfPacked};
-ghost use Rattle.direct.specs.Product.{fromRow, fromColumn, product};
+ghost use Rattle.kernel.specs.Panels.{half_packed};
+ghost use Rattle.direct.specs.Product.{from_row, from_column, product};
 
 use blocks::{block, pass};
 use packing::{Form, factor, pack};
@@ -28,7 +28,7 @@ pub fn sweep(
     requires ld_nonzero { (0 < ld) × (rows ≤ ld) × (cols * ld + rows ≤ length c.old + ld) × (0 < cols) × (cols * 64 ≤ length t.now) }
     requires terms_nonzero { (0 < terms) × (terms ≤ 64) × (terms * 64 ≤ length u.old) × (0 < r) × (r ≤ 64) × (i0 + rows < 18446744073709551616) × Indices down l0 terms }
     requires by_index { (i q : ℕ) → i < rows → q < terms → index_of fa lda (i0 + i) (along down l0 q) < length a.now }
-    ensures { (c.new ≡ update (region ld rows cols (halfPacked terms t.now (λ i q. entry_of fa a.now lda (i0 + i) (along down l0 q)))) c.old) × (length u.new ≡ length u.old) }
+    ensures { (c.new ≡ update (region ld rows cols (half_packed terms t.now (λ i q. entry_of fa a.now lda (i0 + i) (along down l0 q)))) c.old) × (length u.new ≡ length u.old) }
 {
     let mut i = 0;
     while i < rows {
@@ -63,7 +63,7 @@ fn panels(
     requires rows_nonzero { (0 < rows) × (rows ≤ ld) × (cols * ld + rows ≤ length c.old + ld) × (0 < cols) × (0 < r) × (r ≤ 64) × (4096 ≤ length u.old) × (cols * 64 ≤ length t.old) }
     requires rows_bound { (i0 + rows < 18446744073709551616) × (j0 + cols < 18446744073709551616) }
     requires by_index { ((i l : ℕ) → i < rows → l < k → index_of fa lda (i0 + i) l < length a.now) × ((l j : ℕ) → l < k → j < cols → index_of fb ldb l (j0 + j) < length b.now) }
-    ensures { c.new ≡ update (region ld rows cols (product alpha (fromRow i0 (entry_of fa a.now lda)) (fromColumn j0 (entry_of fb b.now ldb)) down k)) c.old }
+    ensures { c.new ≡ update (region ld rows cols (product alpha (from_row i0 (entry_of fa a.now lda)) (from_column j0 (entry_of fb b.now ldb)) down k)) c.old }
 {
     let mut l = 0;
     while l < k {
@@ -98,7 +98,7 @@ pub fn blocked(
     requires rows_nonzero { (0 < rows) × (rows ≤ ld) × (cols * ld + rows ≤ length c.old + ld) × (0 < cols) × (cols ≤ 64) × (0 < r) × (r ≤ 64) }
     requires rows_bound { (i0 + rows < 18446744073709551616) × (j0 + cols < 18446744073709551616) }
     requires by_index { ((i l : ℕ) → i < rows → l < k → index_of fa lda (i0 + i) l < length a.now) × ((l j : ℕ) → l < k → j < cols → index_of fb ldb l (j0 + j) < length b.now) }
-    ensures { c.new ≡ update (region ld rows cols (product alpha (fromRow i0 (entry_of fa a.now lda)) (fromColumn j0 (entry_of fb b.now ldb)) down k)) c.old }
+    ensures { c.new ≡ update (region ld rows cols (product alpha (from_row i0 (entry_of fa a.now lda)) (from_column j0 (entry_of fb b.now ldb)) down k)) c.old }
 {
     let mut u = [0.0f64; 4096];
     let mut t = [0.0f64; 4096];
@@ -129,7 +129,7 @@ pub fn wide(
     requires rows_nonzero { (0 < rows) × (rows ≤ ld) × (cols * ld + rows ≤ length c.old + ld) × (0 < cols) × (cols ≤ 256) × (0 < r) × (r ≤ 64) }
     requires rows_bound { (i0 + rows < 18446744073709551616) × (j0 + cols < 18446744073709551616) }
     requires by_index { ((i l : ℕ) → i < rows → l < k → index_of fa lda (i0 + i) l < length a.now) × ((l j : ℕ) → l < k → j < cols → index_of fb ldb l (j0 + j) < length b.now) }
-    ensures { c.new ≡ update (region ld rows cols (product alpha (fromRow i0 (entry_of fa a.now lda)) (fromColumn j0 (entry_of fb b.now ldb)) down k)) c.old }
+    ensures { c.new ≡ update (region ld rows cols (product alpha (from_row i0 (entry_of fa a.now lda)) (from_column j0 (entry_of fb b.now ldb)) down k)) c.old }
 {
     let mut u = [0.0f64; 4096];
     let mut t = [0.0f64; 16384];

@@ -15,22 +15,22 @@ use Rattle.arrays.proofs.RegionLaws.{region-same}
 use Rattle.floats.specs.Array.{at}
 use Rattle.packing.specs.Factor.{index_of, entry_of, along}
 use Rattle.packing.specs.declared.Form.{Form}
-use Rattle.lines.specs.Lines.{cell, grid, within, lineForm, Room}
+use Rattle.lines.specs.Lines.{cell, grid, within, line_form, Room}
 use Rattle.lines.proofs.GridLaws.{cell-inside, grid-lent}
 
-index-left : (left : Bool) (ld x0 q l : ℕ) → index_of (lineForm left true) ld (along false x0 q) (along false 0 l) ≡ cell left ld (x0 + q) l
+index-left : (left : Bool) (ld x0 q l : ℕ) → index_of (line_form left true) ld (along false x0 q) (along false 0 l) ≡ cell left ld (x0 + q) l
 unfolding index_of along cell
 index-left true ld x0 q l = ap (λ (j : ℕ). j * ld + (x0 + q)) (zero-add l)
 index-left false ld x0 q l = ap (λ (i : ℕ). (x0 + q) * ld + i) (zero-add l)
 
-index-right : (left : Bool) (ld x0 q l : ℕ) → index_of (lineForm left false) ld (along false 0 l) (along false x0 q) ≡ cell left ld (x0 + q) l
+index-right : (left : Bool) (ld x0 q l : ℕ) → index_of (line_form left false) ld (along false 0 l) (along false x0 q) ≡ cell left ld (x0 + q) l
 unfolding index_of along cell
 index-right true ld x0 q l = ap (λ (j : ℕ). j * ld + (x0 + q)) (zero-add l)
 index-right false ld x0 q l = ap (λ (i : ℕ). (x0 + q) * ld + i) (zero-add l)
 
 module _ (left : Bool) {f : Form} where
   -- by the lines of side L
-  module _ (e : f ≡ lineForm left true) where
+  module _ (e : f ≡ line_form left true) where
     left-index : (ld x0 q l : ℕ) → index_of f ld (along false x0 q) (along false 0 l) ≡ cell left ld (x0 + q) l
     left-index ld x0 q l = ap (λ (g : Form). index_of g ld (along false x0 q) (along false 0 l)) e ∙ index-left left ld x0 q l
 
@@ -51,7 +51,7 @@ module _ (left : Bool) {f : Form} where
         (λ q l hq hl _. ap (at x) (left-index 64 0 q l ∙ ap (λ (k : ℕ). cell left 64 k l) (omega arith)))
 
   -- by those of side R
-  module _ (e : f ≡ lineForm left false) where
+  module _ (e : f ≡ line_form left false) where
     right-index : (ld x0 q l : ℕ) → index_of f ld (along false 0 l) (along false x0 q) ≡ cell left ld (x0 + q) l
     right-index ld x0 q l = ap (λ (g : Form). index_of g ld (along false 0 l) (along false x0 q)) e ∙ index-right left ld x0 q l
 

@@ -21,23 +21,23 @@ use Rattle.definitions.specs.declared.Transpose.{Transpose}
 use Rattle.definitions.specs.declared.Transpose.TheVariants.{No, Yes}
 use Rattle.packing.specs.Factor.{index_of, entry_of, turn}
 use Rattle.packing.proofs.FactorLaws.{turn_up, turn-down, turn_below}
-use Rattle.forms.specs.Forms.{opForm}
-use Rattle.lines.specs.Lines.{within, coefficient, byColumns, Beside, RowOf, ColumnOf}
+use Rattle.forms.specs.Forms.{op_form}
+use Rattle.lines.specs.Lines.{within, coefficient, by_columns, Beside, RowOf, ColumnOf}
 use Rattle.lines.proofs.GridLaws.{by-within}
 
 -- ---- the elements after element k, or before it: `count` of n elements from lo on
 
-abbrev firstBeside : Bool → ℕ → ℕ
-firstBeside after k = if after then k + 1 else 0
+abbrev first_beside : Bool → ℕ → ℕ
+first_beside after k = if after then k + 1 else 0
 
-abbrev countBeside : Bool → ℕ → ℕ → ℕ
-countBeside after n k = if after then n - 1 - k else k
+abbrev count_beside : Bool → ℕ → ℕ → ℕ
+count_beside after n k = if after then n - 1 - k else k
 
-pub run_room : (after : Bool) (n k lo count : ℕ) → lo ≡ firstBeside after k → count ≡ countBeside after n k → k < n → lo + count ≤ n
+pub run_room : (after : Bool) (n k lo count : ℕ) → lo ≡ first_beside after k → count ≡ count_beside after n k → k < n → lo + count ≤ n
 run_room true n k lo count el ec h = omega arith
 run_room false n k lo count el ec h = omega arith
 
-in-run : (after : Bool) (n k lo count p : ℕ) → lo ≡ firstBeside after k → count ≡ countBeside after n k → p < n → Beside after k p → (lo ≤ p) × (p < lo + count)
+in-run : (after : Bool) (n k lo count p : ℕ) → lo ≡ first_beside after k → count ≡ count_beside after n k → p < n → Beside after k p → (lo ≤ p) × (p < lo + count)
 in-run true n k lo count p el ec h b = (omega arith, omega arith)
 in-run false n k lo count p el ec h b = (omega arith, omega arith)
 
@@ -151,7 +151,7 @@ module _ (after down : Bool) (a : List Float) (lda x0 n : ℕ) where
   Places k v = (i p : ℕ) → i < n → p < k → Beside after p i → at v (i * 64 + turn down n p) ≡ at a ((x0 + p) * lda + (x0 + i))
 
   module _ (k lo count from : ℕ) (few : n ≤ 64) (low : k < n) (ef : from ≡ (x0 + k) * lda + (x0 + lo)) where
-    pub row_more : lo ≡ firstBeside after k → count ≡ countBeside after n k → (to : ℕ) (v ys : List Float) → to ≡ k * 64 → to ≤ length v → Rows k v
+    pub row_more : lo ≡ first_beside after k → count ≡ count_beside after n k → (to : ℕ) (v ys : List Float) → to ≡ k * 64 → to ≤ length v → Rows k v
         → RowOf down n lo count (take (length a - from) (drop from a)) (take (length v - to) (drop to v)) ys
         → Rows (k + 1) (put_mid to (length v - to) v ys)
     row_more el ec to v ys et al done new i p hi hp b =
@@ -171,7 +171,7 @@ module _ (after down : Bool) (a : List Float) (lda x0 n : ℕ) where
         ∙ ap (λ (j : ℕ). at a ((x0 + j) * lda + (x0 + p))) s)
         (lt-or-ge i k)
 
-    pub place-more : lo ≡ firstBeside after k → count ≡ countBeside after n k → (q : ℕ) (v r : List Float) → q ≡ turn down n k → Places k v
+    pub place-more : lo ≡ first_beside after k → count ≡ count_beside after n k → (q : ℕ) (v r : List Float) → q ≡ turn down n k → Places k v
         → ColumnOf q lo count (take (length a - from) (drop from a)) v r
         → Places (k + 1) r
     place-more el ec q v r eq done new i p hi hp b =
@@ -193,21 +193,21 @@ module _ (after down : Bool) (a : List Float) (lda x0 n : ℕ) where
 
 -- ---- where the coefficients stand
 
-pub columns-are : (left : Bool) (t : Transpose) (a : List Float) (lda i p : ℕ) → byColumns left t ≡ true → at a (i * lda + p) ≡ coefficient left (entry_of (opForm t) a lda) i p
+pub columns-are : (left : Bool) (t : Transpose) (a : List Float) (lda i p : ℕ) → by_columns left t ≡ true → at a (i * lda + p) ≡ coefficient left (entry_of (op_form t) a lda) i p
 unfolding coefficient entry_of index_of
 columns-are true No a lda i p e = absurd (true≢false (sym e))
 columns-are false No a lda i p e = refl
 columns-are true Yes a lda i p e = refl
 columns-are false Yes a lda i p e = absurd (true≢false (sym e))
 
-pub rows_are : (left : Bool) (t : Transpose) (a : List Float) (lda i p : ℕ) → byColumns left t ≡ false → at a (p * lda + i) ≡ coefficient left (entry_of (opForm t) a lda) i p
+pub rows_are : (left : Bool) (t : Transpose) (a : List Float) (lda i p : ℕ) → by_columns left t ≡ false → at a (p * lda + i) ≡ coefficient left (entry_of (op_form t) a lda) i p
 unfolding coefficient entry_of index_of
 rows_are true No a lda i p e = refl
 rows_are false No a lda i p e = absurd (true≢false e)
 rows_are true Yes a lda i p e = absurd (true≢false e)
 rows_are false Yes a lda i p e = refl
 
-pub block_inside : (t : Transpose) (lda x0 n len : ℕ) → ((i j : ℕ) → i < n → j < n → index_of (opForm t) lda (x0 + i) (x0 + j) < len)
+pub block_inside : (t : Transpose) (lda x0 n len : ℕ) → ((i j : ℕ) → i < n → j < n → index_of (op_form t) lda (x0 + i) (x0 + j) < len)
     → (i p : ℕ) → i < n → p < n → (x0 + i) * lda + (x0 + p) < len
 unfolding index_of
 block_inside No lda x0 n len h i p hi hp = h p i hp hi

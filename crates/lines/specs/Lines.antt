@@ -2,12 +2,12 @@
 --     cell         the place of element q of line l
 --     grid         an update of the elements below m of the lines below `lines`, by element and line
 --     within       the choice of the elements from lo on and below lo + n
---     lineForm     how an array that holds its lines by one side is read by the other, or the same
---     lineTerm     what the term of element p, whose value is x, makes of the sum e of element q: e + (alpha * v) * u, with op(A) = T on the left for side L
+--     line_form     how an array that holds its lines by one side is read by the other, or the same
+--     line_term     what the term of element p, whose value is x, makes of the sum e of element q: e + (alpha * v) * u, with op(A) = T on the left for side L
 --     Room         the array has room for `lines` lines of m elements
 -- The coefficients of the terms of the elements of a block for one another:
 --     coefficient  the entry of op(A) = T in the term of element p for the sum of element q
---     byColumns    whether the coefficients for one sum stand in a column of A
+--     by_columns    whether the coefficients for one sum stand in a column of A
 --     Beside       element p comes after element i, or before it
 --     RowOf        a row of n coefficients, by the order of the terms, that has the elements below `count` of a for the elements from lo on
 --     ColumnOf     a buffer that has the elements below `count` of a as the q-th coefficients of the rows from lo on, and no other coefficient that is new
@@ -33,23 +33,23 @@ grid false ld m lines f = region ld lines m (λ i j x. f j i x)
 unfoldable pub within : ℕ → ℕ → ℕ → Bool
 within lo n q = leb lo q && ltb q (lo + n)
 
-abbrev pub lineForm : Bool → Bool → Form
-lineForm true true = Plain
-lineForm true false = Transposed
-lineForm false true = Transposed
-lineForm false false = Plain
+abbrev pub line_form : Bool → Bool → Form
+line_form true true = Plain
+line_form true false = Transposed
+line_form false true = Transposed
+line_form false false = Plain
 
-unfoldable pub lineTerm : Bool → Float → Matrix → ℕ → Float → ℕ → Float → Float
-lineTerm true alpha T q e p x = e ⊕ (alpha ⊗ x) ⊗ T q p
-lineTerm false alpha T q e p x = e ⊕ (alpha ⊗ T p q) ⊗ x
+unfoldable pub line_term : Bool → Float → Matrix → ℕ → Float → ℕ → Float → Float
+line_term true alpha T q e p x = e ⊕ (alpha ⊗ x) ⊗ T q p
+line_term false alpha T q e p x = e ⊕ (alpha ⊗ T p q) ⊗ x
 
 unfoldable pub coefficient : Bool → Matrix → ℕ → ℕ → Float
 coefficient true T q p = T q p
 coefficient false T q p = T p q
 
-abbrev pub byColumns : Bool → Transpose → Bool
-byColumns left No = not left
-byColumns left Yes = left
+abbrev pub by_columns : Bool → Transpose → Bool
+by_columns left No = not left
+by_columns left Yes = left
 
 abbrev pub Beside : Bool → ℕ → ℕ → Type 0
 Beside true i p = i < p

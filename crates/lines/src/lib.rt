@@ -5,8 +5,8 @@ ghost use Rattle.arrays.specs.Update.{update};
 ghost use Rattle.arrays.specs.Fold.{fold};
 ghost use Rattle.floats.specs.Array.{at};
 ghost use Rattle.packing.specs.Factor.{index_of, entry_of, turn};
-ghost use Rattle.forms.specs.Forms.{opForm};
-ghost use Rattle.lines.specs.Lines.{cell, grid, within, lineForm, lineTerm, Room};
+ghost use Rattle.forms.specs.Forms.{op_form};
+ghost use Rattle.lines.specs.Lines.{cell, grid, within, line_form, line_term, Room};
 
 pub mod triangle;
 
@@ -15,7 +15,7 @@ use packing::{Form, factor, pack};
 
 // How an array that holds its lines as one side does is read as the lines of the other side, or of the same.
 fn line_form(left: bool, side: bool) -> Form
-    ensures { result ≡ lineForm left side }
+    ensures { result ≡ line_form left side }
 {
     if left {
         if side { Form::Plain } else { Form::Transposed }
@@ -92,8 +92,8 @@ fn add_left(
     r: usize,
 )
     requires n_nonzero { (0 < n) × (n ≤ 64) × (0 < h) × (0 < lines) × (lines ≤ 64) × (y + h ≤ m) × (0 < r) × (r ≤ 64) × (4096 ≤ length x.now) }
-    requires m_le_ld { (m ≤ ld) × (lines * ld + m ≤ length b.old + ld) × ((q p : ℕ) → q < h → p < n → index_of (opForm t) lda (y + q) (x0 + p) < length a.now) }
-    ensures { b.new ≡ update (grid true ld m lines (λ q l e. if within y h q then fold (λ e i. lineTerm true alpha (entry_of (opForm t) a.now lda) q e (x0 + turn down n i) (at x.now (cell true 64 (turn down n i) l))) n e else e)) b.old }
+    requires m_le_ld { (m ≤ ld) × (lines * ld + m ≤ length b.old + ld) × ((q p : ℕ) → q < h → p < n → index_of (op_form t) lda (y + q) (x0 + p) < length a.now) }
+    ensures { b.new ≡ update (grid true ld m lines (λ q l e. if within y h q then fold (λ e i. line_term true alpha (entry_of (op_form t) a.now lda) q e (x0 + turn down n i) (at x.now (cell true 64 (turn down n i) l))) n e else e)) b.old }
 {
     let f = forms::op_form(t);
     let from = factor::place(f, lda, y, x0);
@@ -136,8 +136,8 @@ fn add_right(
     r: usize,
 )
     requires n_nonzero { (0 < n) × (n ≤ 64) × (0 < h) × (h ≤ 256) × (0 < lines) × (lines ≤ 64) × (y + h ≤ m) × (0 < r) × (r ≤ 64) × (4096 ≤ length x.now) }
-    requires lines_le_ld { (lines ≤ ld) × (m * ld + lines ≤ length b.old + ld) × ((q p : ℕ) → q < h → p < n → index_of (opForm t) lda (x0 + p) (y + q) < length a.now) }
-    ensures { b.new ≡ update (grid false ld m lines (λ q l e. if within y h q then fold (λ e i. lineTerm false alpha (entry_of (opForm t) a.now lda) q e (x0 + turn down n i) (at x.now (cell false 64 (turn down n i) l))) n e else e)) b.old }
+    requires lines_le_ld { (lines ≤ ld) × (m * ld + lines ≤ length b.old + ld) × ((q p : ℕ) → q < h → p < n → index_of (op_form t) lda (x0 + p) (y + q) < length a.now) }
+    ensures { b.new ≡ update (grid false ld m lines (λ q l e. if within y h q then fold (λ e i. line_term false alpha (entry_of (op_form t) a.now lda) q e (x0 + turn down n i) (at x.now (cell false 64 (turn down n i) l))) n e else e)) b.old }
 {
     let f = forms::op_form(t);
     let from = factor::place(f, lda, x0, y);
@@ -183,8 +183,8 @@ pub fn add_terms(
 )
     requires n_nonzero { (0 < n) × (n ≤ 64) × (0 < h) × (left ≡ false → h ≤ 256) × (0 < lines) × (lines ≤ 64) × (y + h ≤ m) × (0 < r) × (r ≤ 64) × (4096 ≤ length x.now) }
     requires room { Room left ld m lines (length b.old) }
-    requires by_index { (q p : ℕ) → q < h → p < n → (if left then index_of (opForm t) lda (y + q) (x0 + p) else index_of (opForm t) lda (x0 + p) (y + q)) < length a.now }
-    ensures { b.new ≡ update (grid left ld m lines (λ q l e. if within y h q then fold (λ e i. lineTerm left alpha (entry_of (opForm t) a.now lda) q e (x0 + turn down n i) (at x.now (cell left 64 (turn down n i) l))) n e else e)) b.old }
+    requires by_index { (q p : ℕ) → q < h → p < n → (if left then index_of (op_form t) lda (y + q) (x0 + p) else index_of (op_form t) lda (x0 + p) (y + q)) < length a.now }
+    ensures { b.new ≡ update (grid left ld m lines (λ q l e. if within y h q then fold (λ e i. line_term left alpha (entry_of (op_form t) a.now lda) q e (x0 + turn down n i) (at x.now (cell left 64 (turn down n i) l))) n e else e)) b.old }
 {
     if left {
         add_left(down, b, ld, m, lines, alpha, t, a, lda, x0, n, y, h, x, r);

@@ -3,8 +3,8 @@ ghost use Rattle.std.specs.Prelude.{◌≡◌, ℕ, ◌+◌, ◌-◌, ◌*◌, �
 ghost use Rattle.arrays.specs.Choice.{if◌then◌else◌};
 ghost use Rattle.floats.specs.Array.{at};
 ghost use Rattle.packing.specs.Factor.{index_of, entry_of, turn};
-ghost use Rattle.forms.specs.Forms.{opForm};
-ghost use Rattle.lines.specs.Lines.{coefficient, byColumns, Beside, RowOf, ColumnOf};
+ghost use Rattle.forms.specs.Forms.{op_form};
+ghost use Rattle.lines.specs.Lines.{coefficient, by_columns, Beside, RowOf, ColumnOf};
 
 use definitions::Transpose;
 use packing::{factor, runs};
@@ -84,7 +84,7 @@ fn by_rows(after: bool, down: bool, a: &[f64], lda: usize, x0: usize, n: usize, 
 
 // Whether the coefficients of an element stand in a column of A, and not in a row.
 pub fn are_columns(left: bool, t: Transpose) -> bool
-    ensures { result ≡ byColumns left t }
+    ensures { result ≡ by_columns left t }
 {
     match t {
         Transpose::No => !left,
@@ -105,8 +105,8 @@ pub fn coefficients(
     n: usize,
     v: &mut [f64],
 )
-    requires { (n ≤ 64) × (x0 + n < 18446744073709551616) × (4096 ≤ length v.old) × ((i j : ℕ) → i < n → j < n → index_of (opForm t) lda (x0 + i) (x0 + j) < length a.now) }
-    ensures { (length v.new ≡ length v.old) × ((i p : ℕ) → i < n → p < n → Beside after i p → at v.new (i * 64 + turn down n p) ≡ coefficient left (entry_of (opForm t) a.now lda) (x0 + i) (x0 + p)) }
+    requires { (n ≤ 64) × (x0 + n < 18446744073709551616) × (4096 ≤ length v.old) × ((i j : ℕ) → i < n → j < n → index_of (op_form t) lda (x0 + i) (x0 + j) < length a.now) }
+    ensures { (length v.new ≡ length v.old) × ((i p : ℕ) → i < n → p < n → Beside after i p → at v.new (i * 64 + turn down n p) ≡ coefficient left (entry_of (op_form t) a.now lda) (x0 + i) (x0 + p)) }
 {
     if are_columns(left, t) {
         by_columns(after, down, a, lda, x0, n, v);

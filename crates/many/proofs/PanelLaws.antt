@@ -21,10 +21,10 @@ use Rattle.arrays.proofs.PartLaws.{tail_at, tail-length}
 use Rattle.arrays.proofs.EntryLaws.{only_same}
 use Rattle.arrays.proofs.RegionLaws.{all-columns}
 use Rattle.floats.specs.Operations.{◌⊕◌, ◌⊗◌}
-use Rattle.definitions.specs.Number.{isZero, factor, start}
+use Rattle.definitions.specs.Number.{is_zero, factor, start}
 use Rattle.definitions.specs.Storage.{stored, op}
-use Rattle.definitions.specs.Call.{ldOutput, inOutput, extent, cut, writes}
-use Rattle.definitions.specs.Element.{Floats, term, productTerm, allTerms, accumulated, gemm, value, arrayB, strip, result}
+use Rattle.definitions.specs.Call.{ld_output, in_output, extent, cut, writes}
+use Rattle.definitions.specs.Element.{Floats, term, product_term, all_terms, accumulated, gemm, value, array_b, strip, result}
 use Rattle.definitions.specs.Check.{untested, idle}
 use Rattle.definitions.specs.Many.{copies, copied, packed, item}
 use Rattle.definitions.specs.declared.Routine.{Routine}
@@ -35,7 +35,7 @@ use Rattle.definitions.proofs.Strips.{written}
 use Rattle.definitions.proofs.Answers.{idle-keeps}
 use Rattle.strips.specs.Lengths.{FitsArrays}
 use Rattle.strips.proofs.Lent.{length-strip}
-use Rattle.many.specs.Panel.{panelSize, panelOf, overPanel, EachFits, Prepared}
+use Rattle.many.specs.Panel.{panel_size, panel_of, over_panel, EachFits, Prepared}
 
 -- ---- what is copied
 
@@ -43,8 +43,8 @@ pub copied-own : (c : Call) (count : ℕ) → c.lda ≡ c.m → 0 ≡ copied c c
 unfolding copied copies
 copied-own c count h = rw (eq-eqb _ _ h, and-false)
 
-pub copied-panel : (c : Call) (count : ℕ) → eqb count 0 ≡ false → eqb c.lda c.m ≡ false → panelSize c ≡ copied c count
-unfolding copied copies panelSize
+pub copied-panel : (c : Call) (count : ℕ) → eqb count 0 ≡ false → eqb c.lda c.m ≡ false → panel_size c ≡ copied c count
+unfolding copied copies panel_size
 copied-panel c count some apart = rw (some, apart, and-true) (by-test (untested c) (λ e. rw e) (λ e. rw e))
 
 -- ---- a part of B that may not be there
@@ -97,45 +97,45 @@ nothing-packed c a n pack e = below_none _ pack ∙ ap (λ (k : ℕ). update (be
 -- ---- the panel stands for A
 
 module _ (c : Call) (p a : List Float) (plain : c.transa ≡ No)
-    (same : isZero c.alpha ≡ false → (i l : ℕ) → i < c.m → l < c.k → stored nan p c.m i l ≡ stored nan a c.lda i l) where
-  terms-same : isZero c.alpha ≡ false → (B : Floats) (i j : ℕ) (e : Float) → i < c.m
-      → fold (productTerm (factor c.alpha) (record { left = op c.transa (stored nan p c.m); right = B }) i j) c.k e
-      ≡ fold (productTerm (factor c.alpha) (record { left = op c.transa (stored nan a c.lda); right = B }) i j) c.k e
-  unfolding productTerm term op
+    (same : is_zero c.alpha ≡ false → (i l : ℕ) → i < c.m → l < c.k → stored nan p c.m i l ≡ stored nan a c.lda i l) where
+  terms-same : is_zero c.alpha ≡ false → (B : Floats) (i j : ℕ) (e : Float) → i < c.m
+      → fold (product_term (factor c.alpha) (record { left = op c.transa (stored nan p c.m); right = B }) i j) c.k e
+      ≡ fold (product_term (factor c.alpha) (record { left = op c.transa (stored nan a c.lda); right = B }) i j) c.k e
+  unfolding product_term term op
   terms-same some B i j e h =
       fold_same _ _ c.k e
       (λ l k x. ap (λ (u : Float). x ⊕ (factor c.alpha ⊗ B l j) ⊗ u)
       (rw plain (same some i l h k)))
 
-  value_same : (b : List Float) (i j : ℕ) (x : Float) → i < c.m → value Gemm (overPanel c) p b i j x ≡ value Gemm c a b i j x
-  unfolding value gemm accumulated allTerms overPanel
+  value_same : (b : List Float) (i j : ℕ) (x : Float) → i < c.m → value Gemm (over_panel c) p b i j x ≡ value Gemm c a b i j x
+  unfolding value gemm accumulated all_terms over_panel
   value_same b i j x h =
-      by-test (isZero c.alpha)
+      by-test (is_zero c.alpha)
       (λ z. rw z)
       (λ z. rw z (terms-same z (op c.transb (stored nan b c.ldb)) i j (start c.beta x) h))
 
-  pub panel-result : c.routine ≡ Gemm → (b out : List Float) → result (overPanel c) p b out ≡ result c a b out
-  unfolding result strip overPanel entries ldOutput extent writes inOutput cut arrayB
+  pub panel-result : c.routine ≡ Gemm → (b out : List Float) → result (over_panel c) p b out ≡ result c a b out
+  unfolding result strip over_panel entries ld_output extent writes in_output cut array_b
   panel-result is b out =
       update_same _ _ out
       (λ q _ x.
-      let i = q % ldOutput c in
-      let j = q / ldOutput c in
+      let i = q % ld_output c in
+      let j = q / ld_output c in
       only_same (writes c 0 (extent c)) _ i j x _
       (λ w.
-      ap (λ (f : Routine). value f (overPanel c) p (arrayB c b out) i j x) is
-      ∙ value_same (arrayB c b out) i j x (written c 0 (extent c) i j w).row
-      ∙ ap (λ (f : Routine). value f c a (arrayB c b out) i j x) (sym is)))
+      ap (λ (f : Routine). value f (over_panel c) p (array_b c b out) i j x) is
+      ∙ value_same (array_b c b out) i j x (written c 0 (extent c) i j w).row
+      ∙ ap (λ (f : Routine). value f c a (array_b c b out) i j x) (sym is)))
 
 -- ---- all items
 
 -- over the panel as over A
 pub items-over-panel : (c p : Call) (own : Bool) (a pack b out : List Float) (lenb lenc strideb stridec count : ℕ) (panel : List Float)
-    → Prepared c own a pack lenb lenc strideb stridec count → p ≡ overPanel c → panel ≡ panelOf c own a pack
+    → Prepared c own a pack lenb lenc strideb stridec count → p ≡ over_panel c → panel ≡ panel_of c own a pack
     → fold (item (result p panel) strideb stridec b) count out ≡ fold (item (result c a) strideb stridec b) count out
 items-over-panel c p own a pack b out lenb lenc strideb stridec count panel h ep el =
     (λ t. fold (item (result (ep t) (el t)) strideb stridec b) count out)
-    ∙ λ t. fold (item (λ x y. panel-result c (panelOf c own a pack) a h.plain h.same h.is-gemm x y t) strideb stridec b) count out
+    ∙ λ t. fold (item (λ x y. panel-result c (panel_of c own a pack) a h.plain h.same h.is-gemm x y t) strideb stridec b) count out
 
 -- items with nothing to do
 pub items-idle : (c : Call) (a b out : List Float) (strideb stridec count : ℕ) → idle c ≡ true → fold (item (result c a) strideb stridec b) count out ≡ out
@@ -146,7 +146,7 @@ items-idle c a b out strideb stridec count h =
 
 -- the panel as it is handed on
 pub over-fits : (c p : Call) (own : Bool) (a pack panel : List Float) (lenb lenc strideb stridec count : ℕ)
-    → Prepared c own a pack lenb lenc strideb stridec count → p ≡ overPanel c → panel ≡ panelOf c own a pack → EachFits p (length panel) lenb lenc strideb stridec count
+    → Prepared c own a pack lenb lenc strideb stridec count → p ≡ over_panel c → panel ≡ panel_of c own a pack → EachFits p (length panel) lenb lenc strideb stridec count
 over-fits c p own a pack panel lenb lenc strideb stridec count h ep el =
     subst (λ (p : Call). EachFits p (length panel) lenb lenc strideb stridec count) (sym ep)
-    (subst (λ (n : ℕ). EachFits (overPanel c) n lenb lenc strideb stridec count) (sym (ap length el ∙ length-take-le (panelSize c) _ h.room)) h.fits)
+    (subst (λ (n : ℕ). EachFits (over_panel c) n lenb lenc strideb stridec count) (sym (ap length el ∙ length-take-le (panel_size c) _ h.room)) h.fits)

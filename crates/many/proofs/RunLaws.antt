@@ -18,12 +18,12 @@ use Rattle.arrays.proofs.Tests.{and_left, or_left, or_right, or-both, if-true, i
 use Rattle.arrays.proofs.UpdateLaws.{length-update, at-update, below_in}
 use Rattle.arrays.proofs.EntryLaws.{entry}
 use Rattle.arrays.proofs.PartLaws.{column-room}
-use Rattle.definitions.specs.Number.{isZero}
+use Rattle.definitions.specs.Number.{is_zero}
 use Rattle.definitions.specs.Storage.{needed, stored}
-use Rattle.definitions.specs.Call.{hasM, hasK, inPlace, empty, startOnly, storedAs, shapeA, shapeB, shape_c}
-use Rattle.definitions.specs.Check.{nat, untested, idle, badWidth, width, call_of}
+use Rattle.definitions.specs.Call.{has_m, has_k, in_place, empty, start_only, stored_as, shape_a, shape_b, shape_c}
+use Rattle.definitions.specs.Check.{nat, untested, idle, bad_width, width, call_of}
 use Rattle.definitions.specs.Element.{result}
-use Rattle.definitions.specs.Many.{copies, copied, packed, fromLast, refusal, copiedBy, item, items_of, lastArgs, many}
+use Rattle.definitions.specs.Many.{copies, copied, packed, from_last, refusal, copied_by, item, items_of, last_args, many}
 use Rattle.definitions.specs.declared.Routine.{Routine}
 use Rattle.definitions.specs.declared.Routine.TheVariants.{Gemm}
 use Rattle.definitions.specs.declared.Transpose.{Transpose}
@@ -36,7 +36,7 @@ use Rattle.definitions.proofs.CheckLaws.{above_zero, in-range}
 use Rattle.definitions.proofs.Fits.{Room, Fits, entry-inside, accepted-fits}
 use Rattle.definitions.proofs.ManyLaws.{none-in-both, when-accepted, items-result}
 use Rattle.strips.specs.Lengths.{FitsArrays}
-use Rattle.many.specs.Panel.{panelSize, panelOf, overPanel, Prepared, OfLast}
+use Rattle.many.specs.Panel.{panel_size, panel_of, over_panel, Prepared, OfLast}
 use Rattle.many.proofs.PanelLaws.{copied-own, copied-panel}
 
 -- columns without padding need as many elements as they have
@@ -52,57 +52,57 @@ module _ (c : Call) (is : c.routine ≡ Gemm) (plain : c.transa ≡ No) (la lb l
   gemm-fits : Fits Gemm c la lb lc
   gemm-fits = subst (λ (f : Routine). Fits f c la lb lc) is h
 
-  some-terms : startOnly c ≡ false → 0 < c.k
-  unfolding startOnly hasK
-  some-terms s = above_zero c.k (ap (λ (f : Routine). hasK f && eqb c.k 0) (sym is) ∙ or_right (isZero c.alpha) _ s)
+  some-terms : start_only c ≡ false → 0 < c.k
+  unfolding start_only has_k
+  some-terms s = above_zero c.k (ap (λ (f : Routine). has_k f && eqb c.k 0) (sym is) ∙ or_right (is_zero c.alpha) _ s)
 
-  reads : isZero c.alpha ≡ false → 0 < c.k → startOnly c ≡ false
-  unfolding startOnly hasK
-  reads z k = or-both (isZero c.alpha) _ z (ap (λ (f : Routine). hasK f && eqb c.k 0) is ∙ ne_eqb c.k 0 (λ e. omega arith))
+  reads : is_zero c.alpha ≡ false → 0 < c.k → start_only c ≡ false
+  unfolding start_only has_k
+  reads z k = or-both (is_zero c.alpha) _ z (ap (λ (f : Routine). has_k f && eqb c.k 0) is ∙ ne_eqb c.k 0 (λ e. omega arith))
 
-  tested : startOnly c ≡ false → untested c ≡ false
+  tested : start_only c ≡ false → untested c ≡ false
   unfolding untested empty
   tested s =
-      or-both (empty c) (startOnly c)
+      or-both (empty c) (start_only c)
       (or-both (eqb c.m 0) (eqb c.n 0) (ne_eqb c.m 0 (λ e. omega (arith, h.some-rows))) (ne_eqb c.n 0 (λ e. omega (arith, h.some-columns)))) s
 
-  whole-panel : startOnly c ≡ false → panelSize c ≡ c.m * c.k
-  unfolding panelSize
+  whole-panel : start_only c ≡ false → panel_size c ≡ c.m * c.k
+  unfolding panel_size
   whole-panel s = if-false (untested c) 0 _ (tested s)
 
-  no-panel : startOnly c ≡ true → panelSize c ≡ 0
-  unfolding panelSize untested
+  no-panel : start_only c ≡ true → panel_size c ≡ 0
+  unfolding panel_size untested
   no-panel s = by-test (empty c) (λ e. rw e) (λ e. rw (e, s))
 
   columns-fit : c.m ≤ c.lda
-  unfolding shapeA storedAs
+  unfolding shape_a stored_as
   columns-fit = rw plain at gemm-fits.ld-a
 
-  columns-there : startOnly c ≡ false → needed c.lda c.m c.k ≤ la
-  unfolding shapeA storedAs
+  columns-there : start_only c ≡ false → needed c.lda c.m c.k ≤ la
+  unfolding shape_a stored_as
   columns-there s = rw plain at (gemm-fits.room-a s)
 
   -- over the panel, with longer B and C
-  over : (lb' lc' : ℕ) → lb ≤ lb' → lc ≤ lc' → Fits Gemm (overPanel c) (panelSize c) lb' lc'
-  unfolding overPanel inPlace hasM startOnly shapeA shapeB shape_c storedAs
+  over : (lb' lc' : ℕ) → lb ≤ lb' → lc ≤ lc' → Fits Gemm (over_panel c) (panel_size c) lb' lc'
+  unfolding over_panel in_place has_m start_only shape_a shape_b shape_c stored_as
   over lb' lc' hb hc = record {
     routine-is = is;
     some-rows = h.some-rows;
     some-columns = h.some-columns;
     square = gemm-fits.square;
-    ld-a = subst (λ (t : Transpose). (storedAs t c.m c.k).rows ≤ c.m) (sym plain) (omega arith);
+    ld-a = subst (λ (t : Transpose). (stored_as t c.m c.k).rows ≤ c.m) (sym plain) (omega arith);
     ld-b = gemm-fits.ld-b;
     ld-c = gemm-fits.ld-c;
-    room-a = λ s. subst (λ (t : Transpose). Room (panelSize c) c.m (storedAs t c.m c.k)) (sym plain)
+    room-a = λ s. subst (λ (t : Transpose). Room (panel_size c) c.m (stored_as t c.m c.k)) (sym plain)
         (omega (arith, needed-full c.m c.k h.some-rows (some-terms s), whole-panel s));
     room-b = λ s. omega (arith, gemm-fits.room-b s);
     room-written-b = λ e. absurd (true≢false (sym e));
     room-c = omega (arith, gemm-fits.room-c);
   }
 
-  panel-fits : (lb' lc' : ℕ) → lb ≤ lb' → lc ≤ lc' → FitsArrays (overPanel c) (panelSize c) lb' lc'
-  unfolding overPanel inPlace
-  panel-fits lb' lc' hb hc = subst (λ (f : Routine). Fits f (overPanel c) (panelSize c) (if inPlace f then lc' else lb') lc') (sym is) (over lb' lc' hb hc)
+  panel-fits : (lb' lc' : ℕ) → lb ≤ lb' → lc ≤ lc' → FitsArrays (over_panel c) (panel_size c) lb' lc'
+  unfolding over_panel in_place
+  panel-fits lb' lc' hb hc = subst (λ (f : Routine). Fits f (over_panel c) (panel_size c) (if in_place f then lc' else lb') lc') (sym is) (over lb' lc' hb hc)
 
   -- C has an element
   some-C : 0 < lc
@@ -113,7 +113,7 @@ module _ (c : Call) (is : c.routine ≡ Gemm) (plain : c.transa ≡ No) (la lb l
 
   module _ (count n : ℕ) (some : eqb count 0 ≡ false) (en : n ≡ copied c count) (a pack packs : List Float) (ea : la ≡ length a) (np : n ≤ length pack) (ep : packs ≡ packed c a n pack) where
     -- where a copy is made the panel is all that is copied
-    by-owner : (P : Bool → Type 0) → (c.lda ≡ c.m → P true) → (panelSize c ≡ n → P (eqb n 0)) → P (eqb n 0)
+    by-owner : (P : Bool → Type 0) → (c.lda ≡ c.m → P true) → (panel_size c ≡ n → P (eqb n 0)) → P (eqb n 0)
     by-owner P own copy =
         by-test (eqb c.lda c.m)
         (λ e. let z : n ≡ 0 = en ∙ sym (copied-own c count (eqb-true _ _ e)) in subst P (sym (eq-eqb n 0 z)) (own (eqb-true _ _ e)))
@@ -123,17 +123,17 @@ module _ (c : Call) (is : c.routine ≡ Gemm) (plain : c.transa ≡ No) (la lb l
     unfolding packed
     packs-length = ap length ep ∙ length-update _ pack
 
-    has_room : panelSize c ≤ length (if eqb n 0 then a else packs)
+    has_room : panel_size c ≤ length (if eqb n 0 then a else packs)
     has_room =
-        by-owner (λ b. panelSize c ≤ length (if b then a else packs))
-        (λ own. by-test (startOnly c)
+        by-owner (λ b. panel_size c ≤ length (if b then a else packs))
+        (λ own. by-test (start_only c)
         (λ s. omega (arith, no-panel s))
         (λ s.
         let there = subst (λ (ld : ℕ). needed ld c.m c.k ≤ la) own (columns-there s) in
         omega (arith, whole-panel s, needed-full c.m c.k h.some-rows (some-terms s), there, ea)))
         (λ e. by-test (eqb n 0)
         (λ z. omega (arith, e, eqb-true n 0 z))
-        (λ z. subst (λ (l : List Float). panelSize c ≤ length l) (sym (if-false (eqb n 0) a packs z)) (omega (arith, e, packs-length))))
+        (λ z. subst (λ (l : List Float). panel_size c ≤ length l) (sym (if-false (eqb n 0) a packs z)) (omega (arith, e, packs-length))))
 
     copied-entry : (i l : ℕ) → i < c.m → l * c.m + i < n → get_or packs (l * c.m + i) nan ≡ stored nan a c.lda i l
     unfolding packed
@@ -143,13 +143,13 @@ module _ (c : Call) (is : c.routine ≡ Gemm) (plain : c.transa ≡ No) (la lb l
         ∙ below_in n _ (l * c.m + i) _ hp
         ∙ entry c.m (λ i l old. stored nan a c.lda i l) i l (l * c.m + i) _ hi refl
 
-    same_entries : isZero c.alpha ≡ false → (i l : ℕ) → i < c.m → l < c.k → stored nan (panelOf c (eqb n 0) a packs) c.m i l ≡ stored nan a c.lda i l
+    same_entries : is_zero c.alpha ≡ false → (i l : ℕ) → i < c.m → l < c.k → stored nan (panel_of c (eqb n 0) a packs) c.m i l ≡ stored nan a c.lda i l
     unfolding stored
     same_entries z i l hi hl =
         let s = reads z (omega arith) in
         let p = l * c.m + i in
-        let inside : p < panelSize c = omega (arith, whole-panel s, column-room c.m hl, mul_comm c.m c.k) in
-        get_or-take (panelSize c) (if eqb n 0 then a else packs) p nan inside
+        let inside : p < panel_size c = omega (arith, whole-panel s, column-room c.m hl, mul_comm c.m c.k) in
+        get_or-take (panel_size c) (if eqb n 0 then a else packs) p nan inside
         ∙ by-owner (λ b. get_or (if b then a else packs) p nan ≡ get_or a (l * c.lda + i) nan)
         (λ own. ap (λ (ld : ℕ). get_or a (l * ld + i) nan) (sym own))
         (λ e.
@@ -174,7 +174,7 @@ module _ (c : Call) (is : c.routine ≡ Gemm) (plain : c.transa ≡ No) (la lb l
 -- ---- a call that is not refused
 
 -- where something is copied there are items, and something to do, and it is m·k elements
-copying : (c : Call) (count : ℕ) → 0 < copied c count → (0 < count) × (idle c ≡ false) × (startOnly c ≡ false) × (copied c count ≡ c.m * c.k)
+copying : (c : Call) (count : ℕ) → 0 < copied c count → (0 < count) × (idle c ≡ false) × (start_only c ≡ false) × (copied c count ≡ c.m * c.k)
 unfolding copied copies untested idle
 copying c count h =
     by-test (copies c count)
@@ -183,7 +183,7 @@ copying c count h =
     let tested = or_right (eqb count 0) _ read in
     let s = or_right (empty c) _ tested in (
       above_zero count (or_left (eqb count 0) _ read),
-      or-both (empty c) _ (or_left (empty c) _ tested) (rw s (and-false (not (inPlace c.routine)))),
+      or-both (empty c) _ (or_left (empty c) _ tested) (rw s (and-false (not (in_place c.routine)))),
       s,
       if-true (copies c count) _ 0 e,
     ))
@@ -192,18 +192,18 @@ copying c count h =
 module _ (w r : ℤ) (g : Args) (t : Items) (lena lenb lenc pack : ℕ) (of : OfLast g t lena lenb lenc) (accepted : refusal w r g t pack ≡ 0) where
   -- the last item's GEMM fits
   last_fits : 0 < nat t.count → idle (call_of g) ≡ false
-      → Fits (call_of g).routine (call_of g) lena (fromLast lenb t.strideb t.count) (fromLast lenc t.stridec t.count)
+      → Fits (call_of g).routine (call_of g) lena (from_last lenb t.strideb t.count) (from_last lenc t.stridec t.count)
   last_fits some busy =
       let ok = when-accepted w r g t pack accepted in
       let f = accepted-fits g (none-in-both g _ _ ok.none-bad (ok.no-array-bad some)) busy in
-      subst (λ (n : ℕ). Fits (call_of g).routine (call_of g) n (fromLast lenb t.strideb t.count) (fromLast lenc t.stridec t.count)) of.has-a
-      (subst (λ (n : ℕ). Fits (call_of g).routine (call_of g) g.lena n (fromLast lenc t.stridec t.count)) of.has-b
+      subst (λ (n : ℕ). Fits (call_of g).routine (call_of g) n (from_last lenb t.strideb t.count) (from_last lenc t.stridec t.count)) of.has-a
+      (subst (λ (n : ℕ). Fits (call_of g).routine (call_of g) g.lena n (from_last lenc t.stridec t.count)) of.has-b
       (subst (λ (n : ℕ). Fits (call_of g).routine (call_of g) g.lena g.lenb n) of.has-c f))
 
   module _ (c : Call) (strideb stridec count n : ℕ) (ec : c ≡ call_of g) (eb : strideb ≡ nat t.strideb) (es : stridec ≡ nat t.stridec) (et : count ≡ nat t.count) (en : n ≡ copied c count) where
-    call_fits : 0 < count → idle c ≡ false → Fits c.routine c lena (fromLast lenb t.strideb t.count) (fromLast lenc t.stridec t.count)
+    call_fits : 0 < count → idle c ≡ false → Fits c.routine c lena (from_last lenb t.strideb t.count) (from_last lenc t.stridec t.count)
     call_fits some busy =
-        subst (λ (c : Call). Fits c.routine c lena (fromLast lenb t.strideb t.count) (fromLast lenc t.stridec t.count)) (sym ec)
+        subst (λ (c : Call). Fits c.routine c lena (from_last lenb t.strideb t.count) (from_last lenc t.stridec t.count)) (sym ec)
         (last_fits (omega arith) (ap idle (sym ec) ∙ busy))
 
     routine : c.routine ≡ Gemm
@@ -229,7 +229,7 @@ module _ (w r : ℤ) (g : Args) (t : Items) (lena lenb lenc pack : ℕ) (of : Of
 
     pub prepared : (a pack₀ packs : List Float) → lena ≡ length a → pack ≡ length pack₀ → packs ≡ packed c a n pack₀
         → 0 < count → idle c ≡ false → Prepared c (eqb n 0) a packs lenb lenc strideb stridec count
-    unfolding fromLast
+    unfolding from_last
     prepared a pack₀ packs ea ep eq some busy =
         all-prepared c routine as-stored _ _ _ (call_fits some busy) count n (ne_eqb count 0 (λ z. omega arith)) en a pack₀ packs ea (omega (arith, room)) eq lenb lenc strideb stridec
         (sym (λ i. lenb - (et i - 1) * eb i)) (sym (λ i. lenc - (et i - 1) * es i))
@@ -237,24 +237,24 @@ module _ (w r : ℤ) (g : Args) (t : Items) (lena lenb lenc pack : ℕ) (of : Of
   pub widths : (v u : ℕ) → v ≡ width w → u ≡ width r → (0 < v) × (v ≤ 64) × (0 < u) × (u ≤ 64)
   widths v u ev eu =
       let ok = (when-accepted w r g t pack accepted).widths in
-      let x = in-range w (or_left (badWidth w) (badWidth r) ok) in
-      let y = in-range r (or_right (badWidth w) (badWidth r) ok) in
+      let x = in-range w (or_left (bad_width w) (bad_width r) ok) in
+      let y = in-range r (or_right (bad_width w) (bad_width r) ok) in
       (omega (arith, x), omega (arith, x), omega (arith, y), omega (arith, y))
 
 -- ---- the call as it is defined
 
 pub is-many : (transb m n k : ℤ) (alpha : Float) (a : List Float) (lda : ℤ) (b : List Float) (ldb strideb : ℤ) (beta : Float) (c : List Float) (ldc stridec items : ℤ) (pack : List Float) (w r : ℤ)
     (x : ManyEnd) (ys ps : List Float)
-    → let g = lastArgs transb m n k alpha (length a) lda (length b) ldb strideb beta (length c) ldc stridec items in
+    → let g = last_args transb m n k alpha (length a) lda (length b) ldb strideb beta (length c) ldc stridec items in
     let t = items_of items strideb stridec in
     let e = refusal w r g t (length pack) in
-    (x.number ≡ pos e) × (x.copied ≡ copiedBy w r g t (length pack))
-    × (ys ≡ (if eqb e 0 then fold (item (result (call_of g) a) (nat strideb) (nat stridec) b) (nat items) c else c)) × (ps ≡ packed (call_of g) a (copiedBy w r g t (length pack)) pack)
+    (x.number ≡ pos e) × (x.copied ≡ copied_by w r g t (length pack))
+    × (ys ≡ (if eqb e 0 then fold (item (result (call_of g) a) (nat strideb) (nat stridec) b) (nat items) c else c)) × (ps ≡ packed (call_of g) a (copied_by w r g t (length pack)) pack)
     → let d = many transb m n k alpha a lda b ldb strideb beta c ldc stridec items pack w r in
     (x ≡ d.end) × (ys ≡ d.array) × (ps ≡ d.pack)
 unfolding many
 is-many transb m n k alpha a lda b ldb strideb beta c ldc stridec items pack w r x ys ps h =
-    let g = lastArgs transb m n k alpha (length a) lda (length b) ldb strideb beta (length c) ldc stridec items in
+    let g = last_args transb m n k alpha (length a) lda (length b) ldb strideb beta (length c) ldc stridec items in
     let e = refusal w r g (items_of items strideb stridec) (length pack) in (
       (λ i. record { number = h.0 i; copied = h.1 i }),
       h.2

@@ -9,7 +9,7 @@ ghost use Rattle.definitions.specs.Storage.{stored, needed};
 ghost use Rattle.definitions.specs.Element.{result};
 ghost use Rattle.definitions.specs.Check as Check;
 ghost use Rattle.definitions.specs.Many as Many;
-ghost use Rattle.many.specs.Panel.{panelSize, overPanel, EachFits, Prepared, OfLast};
+ghost use Rattle.many.specs.Panel.{panel_size, over_panel, EachFits, Prepared, OfLast};
 ghost use Rattle.strips.specs.Lengths.{FitsArrays};
 
 use definitions::{Args, Call, Items, ManyEnd, Routine, Scalar};
@@ -18,7 +18,7 @@ use definitions::{Args, Call, Items, ManyEnd, Routine, Scalar};
 
 // The elements that an array has from its last item on.
 fn from_last(len: usize, stride: i32, count: i32) -> usize
-    ensures* { λ r. ⌜ r ≡ Many.fromLast len stride count ⌝ }
+    ensures* { λ r. ⌜ r ≡ Many.from_last len stride count ⌝ }
 {
     let items = arguments::size(count);
     if items == 0 {
@@ -33,7 +33,7 @@ fn from_last(len: usize, stride: i32, count: i32) -> usize
 
 // A count that is not 0 to 1,000.
 fn bad_count(count: i32) -> bool
-    ensures* { λ r. ⌜ r ≡ Many.badCount count ⌝ }
+    ensures* { λ r. ⌜ r ≡ Many.bad_count count ⌝ }
 {
     let n = arguments::size(count);
     arguments::negative(count) | (1000 < n)
@@ -41,7 +41,7 @@ fn bad_count(count: i32) -> bool
 
 // A negative stride, or one of C below the needed length of C.
 fn bad_stride(c: Call, t: Items) -> bool
-    ensures* { λ r. ⌜ r ≡ Many.badStride c t ⌝ }
+    ensures* { λ r. ⌜ r ≡ Many.bad_stride c t ⌝ }
 {
     let stride = arguments::size(t.stridec) as usize;
     let shape = arguments::shape_c(c);
@@ -51,7 +51,7 @@ fn bad_stride(c: Call, t: Items) -> bool
 
 // The elements of the panel.
 fn panel_size(c: Call) -> usize
-    ensures* { λ r. ⌜ r ≡ panelSize c ⌝ }
+    ensures* { λ r. ⌜ r ≡ panel_size c ⌝ }
 {
     if arguments::untested(c) {
         return 0;
@@ -142,7 +142,7 @@ fn panel<'a>(own: bool, a: &'a [f64], pack: &'a [f64], size: usize) -> &'a [f64]
 
 // The call with the panel for its A.
 fn over_panel(c: Call) -> Call
-    ensures* { λ r. ⌜ r ≡ overPanel c ⌝ }
+    ensures* { λ r. ⌜ r ≡ over_panel c ⌝ }
 {
     let routine = c.routine;
     let side = c.side;
@@ -259,11 +259,11 @@ fn run(
     pack: &mut [f64],
 ) -> ManyEnd
     requires { OfLast g t (length a.now) (length b.now) (length c.old) }
-    ensures* { λ x. ⌜ (x.number ≡ pos (Many.refusal w r g t (length pack.old))) × (x.copied ≡ Many.copiedBy w r g t (length pack.old))
+    ensures* { λ x. ⌜ (x.number ≡ pos (Many.refusal w r g t (length pack.old))) × (x.copied ≡ Many.copied_by w r g t (length pack.old))
         × (c.new ≡ (if eqb (Many.refusal w r g t (length pack.old)) 0
         then fold (Many.item (result (Check.call_of g) a.now) (Check.nat t.strideb) (Check.nat t.stridec) b.now) (Check.nat t.count) c.old
         else c.old))
-        × (pack.new ≡ Many.packed (Check.call_of g) a.now (Many.copiedBy w r g t (length pack.old)) pack.old) ⌝ }
+        × (pack.new ≡ Many.packed (Check.call_of g) a.now (Many.copied_by w r g t (length pack.old)) pack.old) ⌝ }
 {
     let call = arguments::call_of(g);
     let number = refusal(w, r, g, call, t, pack.len());

@@ -5,7 +5,7 @@ use mathlib.Core.Path.{◌≡◌, refl, sym, ap}
 use Prim.Native.Nat.{ℕ, ◌+◌, ◌-◌, ◌*◌, ◌<◌, ◌≤◌}
 use native.Mathlib.Omega.{arith}
 use borrow.Author.Tests.{le-leb, lt-leb}
-use Rattle.packing.specs.Factor.{Indices, Within, isMirrored, isLower, mirroredForm, index_of, along, turn}
+use Rattle.packing.specs.Factor.{Indices, Within, is_mirrored, is_lower, mirrored_form, index_of, along, turn}
 use Rattle.packing.specs.declared.Form.{Form}
 use Rattle.packing.specs.declared.Form.TheVariants.{Plain, Transposed, Lower, Upper}
 
@@ -37,7 +37,7 @@ module _ {form : Form} (ld i j : ℕ) where
   index-upper-mirrored e h = rw (e, lt-leb i j h)
 
 -- the form by its triangle
-pub by-triangle : (form : Form) → isMirrored form ≡ true → mirroredForm (isLower form) ≡ form
+pub by-triangle : (form : Form) → is_mirrored form ≡ true → mirrored_form (is_lower form) ≡ form
 by-triangle Plain e = absurd (true≢false (sym e))
 by-triangle Transposed e = absurd (true≢false (sym e))
 by-triangle Lower e = refl

@@ -14,7 +14,7 @@ use Rattle.arrays.specs.Update.{update, below}
 use Rattle.arrays.proofs.UpdateLaws.{lt-or-ge, below_none, below-same, below_in, below_out}
 use Rattle.arrays.proofs.PartLaws.{tail_at, part_then}
 use Rattle.floats.specs.Array.{at}
-use Rattle.packing.specs.Factor.{mirroredForm, index_of, entry_of}
+use Rattle.packing.specs.Factor.{mirrored_form, index_of, entry_of}
 use Rattle.packing.proofs.FactorLaws.{index-lower, index-lower-mirrored, index-upper, index-upper-mirrored}
 
 -- ---- one run
@@ -59,23 +59,23 @@ two_runs k n f g h l m ys kn nl em ey before after =
 -- ---- the entries of a line, by the triangle that is stored
 
 module _ {lower : Bool} (ld i j y : ℕ) where
-  pub lower-mirrored : lower ≡ true → i + y < j → index_of (mirroredForm lower) ld (i + y) j ≡ (i + y) * ld + j
-  lower-mirrored e h = index-lower-mirrored ld (i + y) j (ap mirroredForm e) h
+  pub lower-mirrored : lower ≡ true → i + y < j → index_of (mirrored_form lower) ld (i + y) j ≡ (i + y) * ld + j
+  lower-mirrored e h = index-lower-mirrored ld (i + y) j (ap mirrored_form e) h
 
-  pub lower-stored : lower ≡ true → j ≤ i + y → index_of (mirroredForm lower) ld (i + y) j ≡ j * ld + (i + y)
-  lower-stored e h = index-lower ld (i + y) j (ap mirroredForm e) h
+  pub lower-stored : lower ≡ true → j ≤ i + y → index_of (mirrored_form lower) ld (i + y) j ≡ j * ld + (i + y)
+  lower-stored e h = index-lower ld (i + y) j (ap mirrored_form e) h
 
-  pub upper-stored : lower ≡ false → i + y < j + 1 → index_of (mirroredForm lower) ld (i + y) j ≡ j * ld + (i + y)
-  upper-stored e h = index-upper ld (i + y) j (ap mirroredForm e) (omega arith)
+  pub upper-stored : lower ≡ false → i + y < j + 1 → index_of (mirrored_form lower) ld (i + y) j ≡ j * ld + (i + y)
+  upper-stored e h = index-upper ld (i + y) j (ap mirrored_form e) (omega arith)
 
-  pub upper-mirrored : lower ≡ false → j + 1 ≤ i + y → index_of (mirroredForm lower) ld (i + y) j ≡ (i + y) * ld + j
-  upper-mirrored e h = index-upper-mirrored ld (i + y) j (ap mirroredForm e) (omega arith)
+  pub upper-mirrored : lower ≡ false → j + 1 ≤ i + y → index_of (mirrored_form lower) ld (i + y) j ≡ (i + y) * ld + j
+  upper-mirrored e h = index-upper-mirrored ld (i + y) j (ap mirrored_form e) (omega arith)
 
 module _ {lower : Bool} (a : List Float) (ld i j k n : ℕ) (l m ys : List Float) (room : n ≤ length l) where
   pub lower-line : lower ≡ true → (k ≤ n) × ((y : ℕ) → y < k → i + y < j) × ((y : ℕ) → k ≤ y → y < n → j ≤ i + y)
       → m ≡ update (below k (λ y x. at a ((i + y) * ld + j))) l
       → ys ≡ update (below (n - k) (λ y x. at a (j * ld + (i + k + y)))) (take (length m - k) (drop k m))
-      → put_mid k (length m - k) m ys ≡ update (below n (λ y x. entry_of (mirroredForm lower) a ld (i + y) j)) l
+      → put_mid k (length m - k) m ys ≡ update (below n (λ y x. entry_of (mirrored_form lower) a ld (i + y) j)) l
   unfolding entry_of
   lower-line e c em ey =
       two_runs k n _ _ _ l m ys c.0 room em ey
@@ -85,7 +85,7 @@ module _ {lower : Bool} (a : List Float) (ld i j k n : ℕ) (l m ys : List Float
   pub upper-line : lower ≡ false → (k ≤ n) × ((y : ℕ) → y < k → i + y < j + 1) × ((y : ℕ) → k ≤ y → y < n → j + 1 ≤ i + y)
       → m ≡ update (below k (λ y x. at a (j * ld + (i + y)))) l
       → ys ≡ update (below (n - k) (λ y x. at a ((i + k + y) * ld + j))) (take (length m - k) (drop k m))
-      → put_mid k (length m - k) m ys ≡ update (below n (λ y x. entry_of (mirroredForm lower) a ld (i + y) j)) l
+      → put_mid k (length m - k) m ys ≡ update (below n (λ y x. entry_of (mirrored_form lower) a ld (i + y) j)) l
   unfolding entry_of
   upper-line e c em ey =
       two_runs k n _ _ _ l m ys c.0 room em ey

@@ -14,7 +14,7 @@ use Rattle.arrays.proofs.UpdateLaws.{lt-or-ge, below-same, at-update}
 use Rattle.arrays.proofs.PartLaws.{tail_at, column-room}
 use Rattle.arrays.proofs.RegionLaws.{region-at, region-same, region-columns}
 use Rattle.floats.specs.Array.{at}
-use Rattle.packing.specs.Factor.{Matrix, Indices, Reads, isMirrored, isLower, mirroredForm, index_of, entry_of, along}
+use Rattle.packing.specs.Factor.{Matrix, Indices, Reads, is_mirrored, is_lower, mirrored_form, index_of, entry_of, along}
 use Rattle.packing.specs.declared.Form.{Form}
 use Rattle.packing.specs.declared.Form.TheVariants.{Plain, Transposed, Lower, Upper}
 use Rattle.packing.specs.declared.Way.{Way}
@@ -57,7 +57,7 @@ module _ {form : Form} {down across : Bool} (i ny j nx : ℕ) where
       → Reads form down across i ny j nx Rows
   by_rows h = record { columns = λ z. let w = distinct z in absurd (let f : ⊥ = omega arith in f); rows = λ z. h; mirrored = λ z. let w = distinct z in absurd (let f : ⊥ = omega arith in f) }
 
-  pub reads-mirrored : isMirrored form ≡ true → down ≡ false → across ≡ false → Reads form down across i ny j nx Mirrored
+  pub reads-mirrored : is_mirrored form ≡ true → down ≡ false → across ≡ false → Reads form down across i ny j nx Mirrored
   reads-mirrored e d a = record { columns = λ z. let w = distinct z in absurd (let f : ⊥ = omega arith in f); rows = λ z. let w = distinct z in absurd (let f : ⊥ = omega arith in f); mirrored = λ z. (e, d, a) }
 
   pub reads_plain : form ≡ Plain → Reads form down across i ny j nx Columns
@@ -97,11 +97,11 @@ module _ {form : Form} {down across : Bool} (i ny j nx : ℕ) where
         (lt-or-ge (along across j x) (along down i y)))
 
 -- a block that is mirrored from one triangle
-pub mirrored-index : (form : Form) {lower down across : Bool} (ld i j y x : ℕ) → lower ≡ isLower form → (isMirrored form ≡ true) × (down ≡ false) × (across ≡ false)
-    → index_of form ld (along down i y) (along across j x) ≡ index_of (mirroredForm lower) ld (i + y) (j + x)
+pub mirrored-index : (form : Form) {lower down across : Bool} (ld i j y x : ℕ) → lower ≡ is_lower form → (is_mirrored form ≡ true) × (down ≡ false) × (across ≡ false)
+    → index_of form ld (along down i y) (along across j x) ≡ index_of (mirrored_form lower) ld (i + y) (j + x)
 mirrored-index form ld i j y x e h =
     ap₂ (λ (r c : ℕ). index_of form ld r c) (along-up i y h.1) (along-up j x h.2)
-    ∙ ap (λ (f : Form). index_of f ld (i + y) (j + x)) (sym (ap mirroredForm e ∙ by-triangle form h.0))
+    ∙ ap (λ (f : Form). index_of f ld (i + y) (j + x)) (sym (ap mirrored_form e ∙ by-triangle form h.0))
 
 -- ---- a block of entries by their places
 
@@ -114,13 +114,13 @@ placed form a ld ny nx I J P d₀ d e h =
     e ∙ region-same 64 ny nx _ _ d₀ (omega arith) (λ y x hy hx _. ap (at a) (sym (h y x hy hx)))
 
 -- a block that was mirrored
-pub mirrored-block : (form : Form) (a : List Float) {lower down across : Bool} (ld ny nx i j : ℕ) (d₀ d : List Float) → lower ≡ isLower form
-    → (isMirrored form ≡ true) × (down ≡ false) × (across ≡ false)
-    → d ≡ update (region 64 ny nx (λ y x _. entry_of (mirroredForm lower) a ld (i + y) (j + x))) d₀
+pub mirrored-block : (form : Form) (a : List Float) {lower down across : Bool} (ld ny nx i j : ℕ) (d₀ d : List Float) → lower ≡ is_lower form
+    → (is_mirrored form ≡ true) × (down ≡ false) × (across ≡ false)
+    → d ≡ update (region 64 ny nx (λ y x _. entry_of (mirrored_form lower) a ld (i + y) (j + x))) d₀
     → d ≡ update (region 64 ny nx (λ y x _. entry_of form a ld (along down i y) (along across j x))) d₀
 unfolding entry_of
 mirrored-block form a {lower} {down} {across} ld ny nx i j d₀ d e h ed =
-    placed form a ld ny nx (λ y. along down i y) (λ x. along across j x) (λ y x. index_of (mirroredForm lower) ld (i + y) (j + x)) d₀ d ed
+    placed form a ld ny nx (λ y. along down i y) (λ x. along across j x) (λ y x. index_of (mirrored_form lower) ld (i + y) (j + x)) d₀ d ed
     (λ y x hy hx. mirrored-index form ld i j y x e h)
 
 -- ---- runs of elements, up or down

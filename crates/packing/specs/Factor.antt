@@ -6,7 +6,7 @@
 --     turn      the index of the term that comes q-th of k: from the first up, or from the last down
 --     Indices   the n indices from `from` on, up or down, are numbers of the machine
 --     Within    these indices are places of an array of len elements
---     isMirrored, isLower, mirroredForm   a form that mirrors a triangle, and which one
+--     is_mirrored, is_lower, mirrored_form   a form that mirrors a triangle, and which one
 --     Reads     a way in which the block of ny by nx entries from (i, j) on can be read
 use Rattle.std.specs.Prelude.{Bool, true, false, ◌≡◌, List, ℕ, ◌+◌, ◌-◌, ◌*◌, ◌<◌, ◌≤◌, leb, Float}
 use Rattle.arrays.specs.Choice.{if◌then◌else◌}
@@ -44,23 +44,23 @@ pub record Within (down : Bool) (from n len : ℕ) : Type 0 where
   pub up : down ≡ false → from + n ≤ len
   pub back : down ≡ true → (n ≤ from + 1) × (from < len)
 
-abbrev pub isMirrored : Form → Bool
-isMirrored Plain = false
-isMirrored Transposed = false
-isMirrored Lower = true
-isMirrored Upper = true
+abbrev pub is_mirrored : Form → Bool
+is_mirrored Plain = false
+is_mirrored Transposed = false
+is_mirrored Lower = true
+is_mirrored Upper = true
 
-abbrev pub isLower : Form → Bool
-isLower Plain = false
-isLower Transposed = false
-isLower Lower = true
-isLower Upper = false
+abbrev pub is_lower : Form → Bool
+is_lower Plain = false
+is_lower Transposed = false
+is_lower Lower = true
+is_lower Upper = false
 
-abbrev pub mirroredForm : Bool → Form
-mirroredForm true = Lower
-mirroredForm false = Upper
+abbrev pub mirrored_form : Bool → Form
+mirrored_form true = Lower
+mirrored_form false = Upper
 
 pub record Reads (form : Form) (down across : Bool) (i ny j nx : ℕ) (way : Way) : Type 0 where
   pub columns : way ≡ Columns → (ld y x : ℕ) → y < ny → x < nx → index_of form ld (along down i y) (along across j x) ≡ along across j x * ld + along down i y
   pub rows : way ≡ Rows → (ld y x : ℕ) → y < ny → x < nx → index_of form ld (along down i y) (along across j x) ≡ along down i y * ld + along across j x
-  pub mirrored : way ≡ Mirrored → (isMirrored form ≡ true) × (down ≡ false) × (across ≡ false)
+  pub mirrored : way ≡ Mirrored → (is_mirrored form ≡ true) × (down ≡ false) × (across ≡ false)

@@ -2,13 +2,13 @@
 ghost use Rattle.std.specs.Prelude.{◌≡◌, ℕ, ◌+◌, ◌*◌, ◌≤◌, ◌<◌, length};
 ghost use Rattle.arrays.specs.Update.{update, below, region};
 ghost use Rattle.floats.specs.Array.{at};
-ghost use Rattle.packing.specs.Factor.{isMirrored, isLower, mirroredForm, index_of, entry_of};
+ghost use Rattle.packing.specs.Factor.{is_mirrored, is_lower, mirrored_form, index_of, entry_of};
 
 use super::{Form, runs};
 
 // The form mirrors one triangle.
 pub fn is_mirrored(form: Form) -> bool
-    ensures { result ≡ isMirrored form }
+    ensures { result ≡ is_mirrored form }
 {
     match form {
         Form::Plain => false,
@@ -20,7 +20,7 @@ pub fn is_mirrored(form: Form) -> bool
 
 // That triangle is the lower one.
 pub fn is_lower(form: Form) -> bool
-    ensures { result ≡ isLower form }
+    ensures { result ≡ is_lower form }
 {
     match form {
         Form::Plain => false,
@@ -70,8 +70,8 @@ fn mirrored(dest: &mut [f64], n: usize, a: &[f64], ld: usize, i: usize, j: usize
 
 // n entries of column j, from row i on: those before the diagonal, then the others.
 fn line(dest: &mut [f64], n: usize, lower: bool, a: &[f64], ld: usize, i: usize, j: usize)
-    requires { (n ≤ length dest.old) × (i + n < 18446744073709551616) × (j < 18446744073709551615) × ((y : ℕ) → y < n → index_of (mirroredForm lower) ld (i + y) j < length a.now) }
-    ensures { dest.new ≡ update (below n (λ y x. entry_of (mirroredForm lower) a.now ld (i + y) j)) dest.old }
+    requires { (n ≤ length dest.old) × (i + n < 18446744073709551616) × (j < 18446744073709551615) × ((y : ℕ) → y < n → index_of (mirrored_form lower) ld (i + y) j < length a.now) }
+    ensures { dest.new ≡ update (below n (λ y x. entry_of (mirrored_form lower) a.now ld (i + y) j)) dest.old }
 {
     if lower {
         let k = rows_before(i, n, j);
@@ -97,8 +97,8 @@ pub fn block(
     j: usize,
 )
     requires stride_nonzero { (0 < stride) × (ny ≤ stride) × (nx * stride ≤ length dest.old) × (i + ny < 18446744073709551616) × (j + nx < 18446744073709551616) }
-    requires by_index { (y x : ℕ) → y < ny → x < nx → index_of (mirroredForm lower) ld (i + y) (j + x) < length a.now }
-    ensures { dest.new ≡ update (region stride ny nx (λ y x _. entry_of (mirroredForm lower) a.now ld (i + y) (j + x))) dest.old }
+    requires by_index { (y x : ℕ) → y < ny → x < nx → index_of (mirrored_form lower) ld (i + y) (j + x) < length a.now }
+    ensures { dest.new ≡ update (region stride ny nx (λ y x _. entry_of (mirrored_form lower) a.now ld (i + y) (j + x))) dest.old }
 {
     let mut x = 0;
     while x < nx {

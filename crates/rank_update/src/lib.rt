@@ -5,13 +5,13 @@ ghost use Rattle.definitions.specs.Number.{start};
 ghost use Rattle.definitions.specs.Element.{StripOf};
 ghost use Rattle.definitions.specs.declared.Routine.TheVariants.{Syrk, Syr2k};
 ghost use Rattle.definitions.proofs.Fits.{Fits};
-ghost use Rattle.rank_update.specs.Options.{isLower, transposedForm};
+ghost use Rattle.rank_update.specs.Options.{is_lower, transposed_form};
 
 use definitions::{Call, Scalar, Transpose, Triangle};
 use packing::Form;
 
 fn is_lower(t: Triangle) -> bool
-    ensures { result ≡ isLower t }
+    ensures { result ≡ is_lower t }
 {
     match t {
         Triangle::Lower => true,
@@ -21,7 +21,7 @@ fn is_lower(t: Triangle) -> bool
 
 // The transpose of op(A): A is read the other way round.
 fn transposed_form(t: Transpose) -> Form
-    ensures { result ≡ transposedForm t }
+    ensures { result ≡ transposed_form t }
 {
     match t {
         Transpose::No => Form::Transposed,

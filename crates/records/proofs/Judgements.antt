@@ -16,10 +16,10 @@ use mir.ValLaws.{to_z-of_z}
 use borrow.Author.Tests.{ltb-true, ne_eqb}
 use Rattle.arrays.specs.Choice.{if◌then◌else◌}
 use Rattle.arrays.proofs.Tests.{and_right, if-true, if-false, by-test}
-use Rattle.definitions.specs.Call.{hasM, inPlace, cutsRows, extent}
+use Rattle.definitions.specs.Call.{has_m, in_place, cuts_rows, extent}
 use Rattle.definitions.specs.Check.{nat, side_of, refusal, idle, call_of, checked}
 use Rattle.definitions.specs.Machine.{refuse}
-use Rattle.definitions.specs.Sheet.{Sheet, Arrays, A, B, C, index, word, field, routine_of, output, inputs, any, array, lengths, partLength, badArrays, badOffsets, argsOf, recordRefusal, accepted, actBy}
+use Rattle.definitions.specs.Sheet.{Sheet, Arrays, A, B, C, index, word, field, routine_of, output, inputs, any, array, lengths, part_length, bad_arrays, bad_offsets, args_of, record_refusal, accepted, act_by}
 use Rattle.definitions.specs.declared.Routine.{Routine}
 use Rattle.definitions.specs.declared.Routine.TheVariants.{Gemm, Symm, Syrk, Syr2k, Trmm, Trsm}
 use Rattle.definitions.specs.declared.Args.{Args}
@@ -27,8 +27,8 @@ use Rattle.definitions.specs.declared.Call.{Call}
 use Rattle.definitions.specs.declared.Checked.{Checked}
 use Rattle.definitions.specs.declared.Checked.TheVariants.{Refused, Idle, Ready}
 use Rattle.definitions.proofs.CheckLaws.{when-ready, when-idle, when-refused}
-use Rattle.definitions.proofs.Records.{Accepted, recordCall, record-routine}
-use Rattle.records.specs.Judgement.{sizes, known, routineAt, second, badNumber, badNumbers, badOffset, settled, judged, actOf, extentOf}
+use Rattle.definitions.proofs.Records.{Accepted, record_call, record-routine}
+use Rattle.records.specs.Judgement.{sizes, known, routine_at, second, bad_number, bad_numbers, bad_offset, settled, judged, act_of, extent_of}
 use Rattle.records.specs.declared.Judged.{Judged}
 use Rattle.records.specs.declared.Judged.TheVariants.{Rejected, NoWork, Work}
 
@@ -46,8 +46,8 @@ sizes-are l (suc (suc n)) = simp (eqb-suc-zero (suc n), ne_eqb (suc (suc n)) 1 (
 
 -- ---- the routine
 
-pub routine-known : (z : ℤ) → known z ≡ true → routine_of z ≡ some (routineAt (nat z))
-unfolding known routine_of routineAt
+pub routine-known : (z : ℤ) → known z ≡ true → routine_of z ≡ some (routine_at (nat z))
+unfolding known routine_of routine_at
 routine-known (pos zero) h = absurd (true≢false (sym h))
 routine-known (pos (suc zero)) h = refl
 routine-known (pos (suc (suc zero))) h = refl
@@ -81,12 +81,12 @@ twice true = refl
 twice false = refl
 
 module _ (t : Sheet) (p : ℕ) where
-  pub numbers-are : (f : Routine) → badNumbers (field t p (output f)) (field t p A) (field t p (second f)) ≡ badArrays t p f
-  unfolding badNumbers badNumber badArrays any output inputs second inPlace
+  pub numbers-are : (f : Routine) → bad_numbers (field t p (output f)) (field t p A) (field t p (second f)) ≡ bad_arrays t p f
+  unfolding bad_numbers bad_number bad_arrays any output inputs second in_place
   numbers-are f = go f
     where
       far : ℕ → Bool
-      far q = badNumber (field t p q)
+      far q = bad_number (field t p q)
 
       same : ℕ → ℕ → Bool
       same o q = eqb (nat (field t p q)) (nat (field t p o))
@@ -97,7 +97,7 @@ module _ (t : Sheet) (p : ℕ) where
       two : (o : ℕ) → ((far o || (far A || far A)) || (same o A || same o A)) ≡ ((far o || (far A || false)) || (same o A || false))
       two o = λ i. (far o || twice (far A) i) || twice (same o A) i
 
-      go : (f : Routine) → badNumbers (field t p (output f)) (field t p A) (field t p (second f)) ≡ badArrays t p f
+      go : (f : Routine) → bad_numbers (field t p (output f)) (field t p A) (field t p (second f)) ≡ bad_arrays t p f
       go Gemm = three _ _
       go Symm = three _ _
       go Syrk = two _
@@ -105,13 +105,13 @@ module _ (t : Sheet) (p : ℕ) where
       go Trmm = two _
       go Trsm = two _
 
-  pub offsets_are : (size : ℕ → ℕ) (f : Routine) → let bad : ℕ → Bool = λ q. badOffset size (field t p q) (field t p (q + 1)) in
-      (bad (output f) || (bad A || bad (second f))) ≡ badOffsets t p f size
-  unfolding badOffset badOffsets any output inputs second inPlace
+  pub offsets_are : (size : ℕ → ℕ) (f : Routine) → let bad : ℕ → Bool = λ q. bad_offset size (field t p q) (field t p (q + 1)) in
+      (bad (output f) || (bad A || bad (second f))) ≡ bad_offsets t p f size
+  unfolding bad_offset bad_offsets any output inputs second in_place
   offsets_are size f = go f
     where
       bad : ℕ → Bool
-      bad q = badOffset size (field t p q) (field t p (q + 1))
+      bad q = bad_offset size (field t p q) (field t p (q + 1))
 
       three : (o q : ℕ) → (bad o || (bad A || bad q)) ≡ (bad o || (bad A || (bad q || false)))
       three o q = λ i. bad o || (bad A || last-test (bad q) i)
@@ -119,7 +119,7 @@ module _ (t : Sheet) (p : ℕ) where
       two : (o : ℕ) → (bad o || (bad A || bad A)) ≡ (bad o || (bad A || false))
       two o = λ i. bad o || twice (bad A) i
 
-      go : (f : Routine) → (bad (output f) || (bad A || bad (second f))) ≡ badOffsets t p f size
+      go : (f : Routine) → (bad (output f) || (bad A || bad (second f))) ≡ bad_offsets t p f size
       go Gemm = three C B
       go Symm = three C B
       go Syrk = two C
@@ -141,8 +141,8 @@ module _ (t : Sheet) (words : List ℤ) (p at : ℕ) (w : t.words ≡ words) (e 
   pub word-is : (q q' : ℕ) (z : ℤ) → q ≡ q' → mag z < 2 ^ 31 → z ≡ get_or words (at + q) (pos 0) → to_z w32 (of_z w32 z) ≡ field t p q'
   word-is q q' z eq fits ez = to_z-of_z w32 z (record { sfits = fits }) ∙ ez ∙ field_is t words p at w e q ∙ ap (field t p) eq
 
-  pub length-is : (size : ℕ → ℕ) (q n : ℕ) → n ≡ size (nat (get_or words (at + q) (pos 0))) - nat (get_or words (at + (q + 1)) (pos 0)) → n ≡ partLength t p q size
-  unfolding partLength
+  pub length-is : (size : ℕ → ℕ) (q n : ℕ) → n ≡ size (nat (get_or words (at + q) (pos 0))) - nat (get_or words (at + (q + 1)) (pos 0)) → n ≡ part_length t p q size
+  unfolding part_length
   length-is size q n h = h ∙ (λ i. size (nat (field_is t words p at w e q i)) - nat (field_is t words p at w e (q + 1) i))
 
 -- ---- all tests
@@ -152,38 +152,38 @@ module _ (t : Sheet) (p : ℕ) (size : ℕ → ℕ) (z : ℤ) (e : z ≡ field t
   unfolding judged
   judged-31 k = sym (ap (λ (y : ℤ). judged t p size (routine_of y)) (sym e) ∙ ap (judged t p size) (routine-unknown z k))
 
-  module _ (k : known z ≡ true) (f : Routine) (r : f ≡ routineAt (nat z)) where
+  module _ (k : known z ≡ true) (f : Routine) (r : f ≡ routine_at (nat z)) where
     routine-is : routine_of (field t p 0) ≡ some f
     routine-is = ap routine_of (sym e) ∙ routine-known z k ∙ ap some (sym r)
 
-    pub judged-32 : badArrays t p f ≡ true → Rejected 32 ≡ judged t p size (routine_of (field t p 0))
+    pub judged-32 : bad_arrays t p f ≡ true → Rejected 32 ≡ judged t p size (routine_of (field t p 0))
     unfolding judged
-    judged-32 a = sym (ap (judged t p size) routine-is ∙ if-true (badArrays t p f) _ _ a)
+    judged-32 a = sym (ap (judged t p size) routine-is ∙ if-true (bad_arrays t p f) _ _ a)
 
-    pub judged-33 : badArrays t p f ≡ false → badOffsets t p f size ≡ true → Rejected 33 ≡ judged t p size (routine_of (field t p 0))
+    pub judged-33 : bad_arrays t p f ≡ false → bad_offsets t p f size ≡ true → Rejected 33 ≡ judged t p size (routine_of (field t p 0))
     unfolding judged
-    judged-33 a o = sym (ap (judged t p size) routine-is ∙ if-false (badArrays t p f) _ _ a ∙ if-true (badOffsets t p f size) _ _ o)
+    judged-33 a o = sym (ap (judged t p size) routine-is ∙ if-false (bad_arrays t p f) _ _ a ∙ if-true (bad_offsets t p f size) _ _ o)
 
-    pub judged-direct : badArrays t p f ≡ false → badOffsets t p f size ≡ false
-        → settled (checked (field t p 18) (field t p 19) (argsOf t p f size)) (call_of (argsOf t p f size)) ≡ judged t p size (routine_of (field t p 0))
+    pub judged-direct : bad_arrays t p f ≡ false → bad_offsets t p f size ≡ false
+        → settled (checked (field t p 18) (field t p 19) (args_of t p f size)) (call_of (args_of t p f size)) ≡ judged t p size (routine_of (field t p 0))
     unfolding judged
-    judged-direct a o = sym (ap (judged t p size) routine-is ∙ if-false (badArrays t p f) _ _ a ∙ if-false (badOffsets t p f size) _ _ o)
+    judged-direct a o = sym (ap (judged t p size) routine-is ∙ if-false (bad_arrays t p f) _ _ a ∙ if-false (bad_offsets t p f size) _ _ o)
 
 -- What the record does is what its judgement says.
-pub act-is : (t : Sheet) (p : ℕ) (size : ℕ → ℕ) (o : Option Routine) → actBy t p size o ≡ actOf t p (judged t p size o)
-unfolding actBy actOf judged recordRefusal checked settled
+pub act-is : (t : Sheet) (p : ℕ) (size : ℕ → ℕ) (o : Option Routine) → act_by t p size o ≡ act_of t p (judged t p size o)
+unfolding act_by act_of judged record_refusal checked settled
 act-is t p size none = refl
 act-is t p size (some f) =
-    by-test (badArrays t p f)
+    by-test (bad_arrays t p f)
     (λ a. rw a refl)
-    (λ a. by-test (badOffsets t p f size) (λ o. rw (a, o) refl) (λ o. rw (a, o) (direct (field t p 18) (field t p 19))))
+    (λ a. by-test (bad_offsets t p f size) (λ o. rw (a, o) refl) (λ o. rw (a, o) (direct (field t p 18) (field t p 19))))
   where
-    direct : (w r : ℤ) → (if eqb (refusal w r (argsOf t p f size)) 0 then accepted t p f (recordCall t p size f) else refuse (refusal w r (argsOf t p f size)))
-        ≡ actOf t p (settled (checked w r (argsOf t p f size)) (recordCall t p size f))
+    direct : (w r : ℤ) → (if eqb (refusal w r (args_of t p f size)) 0 then accepted t p f (record_call t p size f) else refuse (refusal w r (args_of t p f size)))
+        ≡ act_of t p (settled (checked w r (args_of t p f size)) (record_call t p size f))
     direct w r =
-        let c = recordCall t p size f in
+        let c = record_call t p size f in
         let kept = ap (λ (f : Routine). accepted t p f c) (sym (record-routine t p size f)) in
-        by-test (eqb (refusal w r (argsOf t p f size)) 0)
+        by-test (eqb (refusal w r (args_of t p f size)) 0)
         (λ e. by-test (idle c) (λ i. rw (e, i) kept) (λ i. rw (e, i) kept))
         (λ e. rw e refl)
 
@@ -211,8 +211,8 @@ settled-rejected Idle c e h = absurd (clash cc)
 settled-rejected (Ready k) c e h = absurd (clash cc)
 
 -- the extent is a word's
-pub extent-small : (w r : ℤ) (g : Args) → nat g.m < 2 ^ 31 → nat g.n < 2 ^ 31 → extentOf (settled (checked w r g) (call_of g)) < 2 ^ 31
-unfolding settled extentOf extent call_of
+pub extent-small : (w r : ℤ) (g : Args) → nat g.m < 2 ^ 31 → nat g.n < 2 ^ 31 → extent_of (settled (checked w r g) (call_of g)) < 2 ^ 31
+unfolding settled extent_of extent call_of
 extent-small w r g hm hn = go (checked w r g) refl
   where
     rows : (b : Bool) → (if b then nat g.m else nat g.n) < 2 ^ 31
@@ -224,9 +224,9 @@ extent-small w r g hm hn = go (checked w r g) refl
     small false h = hn
 
     whole : extent (call_of g) < 2 ^ 31
-    whole = small (cutsRows g.routine (side_of g.side)) (hasM g.routine)
+    whole = small (cuts_rows g.routine (side_of g.side)) (has_m g.routine)
 
-    go : (k : Checked) → checked w r g ≡ k → extentOf (settled k (call_of g)) < 2 ^ 31
+    go : (k : Checked) → checked w r g ≡ k → extent_of (settled k (call_of g)) < 2 ^ 31
     go (Refused e) h = omega arith
     go Idle h = whole
     go (Ready c) h = subst (λ (c : Call). extent c < 2 ^ 31) (sym (when-ready w r g c h).2) whole
@@ -236,24 +236,24 @@ module _ (t : Sheet) (p : ℕ) (size : ℕ → ℕ) where
   record Passes (v : Judged) (o : Option Routine) : Type 0 where
     pub f : Routine
     pub routine-is : o ≡ some f
-    pub arrays-ok : badArrays t p f ≡ false
-    pub offsets-ok : badOffsets t p f size ≡ false
-    pub direct : settled (checked (field t p 18) (field t p 19) (argsOf t p f size)) (call_of (argsOf t p f size)) ≡ v
+    pub arrays-ok : bad_arrays t p f ≡ false
+    pub offsets-ok : bad_offsets t p f size ≡ false
+    pub direct : settled (checked (field t p 18) (field t p 19) (args_of t p f size)) (call_of (args_of t p f size)) ≡ v
 
   passes : (v : Judged) → ((e : ℕ) → Rejected e ≡ v → ⊥) → (o : Option Routine) → judged t p size o ≡ v → Passes v o
   unfolding judged
   passes v goes none h = absurd (goes 31 h)
   passes v goes (some f) h =
-      by-test (badArrays t p f)
-      (λ a. absurd (goes 32 (sym (if-true (badArrays t p f) _ _ a) ∙ h)))
-      (λ a. by-test (badOffsets t p f size)
-      (λ o. absurd (goes 33 (sym (if-true (badOffsets t p f size) _ _ o) ∙ sym (if-false (badArrays t p f) _ _ a) ∙ h)))
+      by-test (bad_arrays t p f)
+      (λ a. absurd (goes 32 (sym (if-true (bad_arrays t p f) _ _ a) ∙ h)))
+      (λ a. by-test (bad_offsets t p f size)
+      (λ o. absurd (goes 33 (sym (if-true (bad_offsets t p f size) _ _ o) ∙ sym (if-false (bad_arrays t p f) _ _ a) ∙ h)))
       (λ o. record {
         f = f;
         routine-is = refl;
         arrays-ok = a;
         offsets-ok = o;
-        direct = sym (if-false (badOffsets t p f size) _ _ o) ∙ sym (if-false (badArrays t p f) _ _ a) ∙ h;
+        direct = sym (if-false (bad_offsets t p f size) _ _ o) ∙ sym (if-false (bad_arrays t p f) _ _ a) ∙ h;
       }))
 
   -- An accepted record: its routine, what it satisfies, and its call.
@@ -261,21 +261,21 @@ module _ (t : Sheet) (p : ℕ) (size : ℕ → ℕ) where
     pub f : Routine
     pub routine-is : o ≡ some f
     pub accepts : Accepted t p size f
-    pub call-is : c ≡ recordCall t p size f
+    pub call-is : c ≡ record_call t p size f
 
   pub when-work : (o : Option Routine) (c : Call) → judged t p size o ≡ Work c
-      → (k : Taken o c) × (checked (field t p 18) (field t p 19) (argsOf t p k.f size) ≡ Ready c)
+      → (k : Taken o c) × (checked (field t p 18) (field t p 19) (args_of t p k.f size) ≡ Ready c)
   when-work o c h =
       let s = passes (Work c) (λ e z. clash cc) o h in
       let k = settled-work _ _ c s.direct in
-      let r = when-ready (field t p 18) (field t p 19) (argsOf t p s.f size) c k in
+      let r = when-ready (field t p 18) (field t p 19) (args_of t p s.f size) c k in
       (record { f = s.f; routine-is = s.routine-is; accepts = record { arrays-ok = s.arrays-ok; offsets-ok = s.offsets-ok; direct-ok = r.0 }; call-is = r.2 }, k)
 
   pub when-none : (o : Option Routine) (c : Call) → judged t p size o ≡ NoWork c → Taken o c × (idle c ≡ true)
   when-none o c h =
       let s = passes (NoWork c) (λ e z. clash cc) o h in
       let k = settled-none _ _ c s.direct in
-      let r = when-idle (field t p 18) (field t p 19) (argsOf t p s.f size) k.0 in (
+      let r = when-idle (field t p 18) (field t p 19) (args_of t p s.f size) k.0 in (
         record { f = s.f; routine-is = s.routine-is; accepts = record { arrays-ok = s.arrays-ok; offsets-ok = s.offsets-ok; direct-ok = r.0 }; call-is = k.1 },
         ap idle k.1 ∙ r.1,
       )
@@ -285,13 +285,13 @@ module _ (t : Sheet) (p : ℕ) (size : ℕ → ℕ) where
   unfolding judged
   rejected-small none e h = let q : 31 ≡ e = cc in omega arith
   rejected-small (some f) e h =
-      by-test (badArrays t p f)
-      (λ a. let q : Rejected 32 ≡ Rejected e = sym (if-true (badArrays t p f) _ _ a) ∙ h in number 32 q (omega arith))
-      (λ a. by-test (badOffsets t p f size)
-      (λ o. let q : Rejected 33 ≡ Rejected e = sym (if-true (badOffsets t p f size) _ _ o) ∙ sym (if-false (badArrays t p f) _ _ a) ∙ h in number 33 q (omega arith))
+      by-test (bad_arrays t p f)
+      (λ a. let q : Rejected 32 ≡ Rejected e = sym (if-true (bad_arrays t p f) _ _ a) ∙ h in number 32 q (omega arith))
+      (λ a. by-test (bad_offsets t p f size)
+      (λ o. let q : Rejected 33 ≡ Rejected e = sym (if-true (bad_offsets t p f size) _ _ o) ∙ sym (if-false (bad_arrays t p f) _ _ a) ∙ h in number 33 q (omega arith))
       (λ o.
-      let q = sym (if-false (badOffsets t p f size) _ _ o) ∙ sym (if-false (badArrays t p f) _ _ a) ∙ h in
-      omega (arith, (when-refused (field t p 18) (field t p 19) (argsOf t p f size) e (settled-rejected _ _ e q)).2)))
+      let q = sym (if-false (bad_offsets t p f size) _ _ o) ∙ sym (if-false (bad_arrays t p f) _ _ a) ∙ h in
+      omega (arith, (when-refused (field t p 18) (field t p 19) (args_of t p f size) e (settled-rejected _ _ e q)).2)))
     where
       number : (n : ℕ) → Rejected n ≡ Rejected e → n ≤ 33 → e ≤ 33
       number n q b = let z : n ≡ e = cc in omega arith

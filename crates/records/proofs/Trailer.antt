@@ -11,9 +11,9 @@ use lib.ListN.{length}
 use borrow.Author.Tests.{le-leb, lt-leb, leb-true, eqb-true}
 use Rattle.arrays.proofs.Tests.{and_left, and_right, if-true, if-false}
 use Rattle.definitions.specs.Check.{nat, negative}
-use Rattle.definitions.specs.Machine.{stripsOf}
+use Rattle.definitions.specs.Machine.{strips_of}
 use Rattle.definitions.specs.Sheet.{Sheet, Arrays, index, count, sound, records, act}
-use Rattle.definitions.specs.Run.{tooShort, badCursor, runRefusal}
+use Rattle.definitions.specs.Run.{too_short, bad_cursor, run_refusal}
 
 -- ---- 34
 
@@ -49,31 +49,31 @@ sound-long t h = leb-true 2 _ (and_left (leb 2 (length t.words)) _ h)
 -- ---- 36
 
 module _ (t : Sheet) (l : Arrays) where
-  pub cursor-s : (p s : ℤ) → negative s ≡ true → true ≡ badCursor t l p s
-  unfolding badCursor
+  pub cursor-s : (p s : ℤ) → negative s ≡ true → true ≡ bad_cursor t l p s
+  unfolding bad_cursor
   cursor-s p (pos s) h = absurd (true≢false (sym h))
   cursor-s p (negsuc s) h = refl
 
-  pub cursor-p : (p s : ℤ) → negative s ≡ false → negative p ≡ true → true ≡ badCursor t l p s
-  unfolding badCursor
+  pub cursor-p : (p s : ℤ) → negative s ≡ false → negative p ≡ true → true ≡ bad_cursor t l p s
+  unfolding bad_cursor
   cursor-p p (pos zero) h k = rw k refl
   cursor-p p (pos (suc s)) h k = rw k refl
   cursor-p p (negsuc s) h k = absurd (true≢false h)
 
-  pub cursor-first : (p s : ℤ) → negative s ≡ false → negative p ≡ false → nat s ≡ 0 → ltb (records t) (nat p) ≡ badCursor t l p s
-  unfolding badCursor
+  pub cursor-first : (p s : ℤ) → negative s ≡ false → negative p ≡ false → nat s ≡ 0 → ltb (records t) (nat p) ≡ bad_cursor t l p s
+  unfolding bad_cursor
   cursor-first p (pos zero) h k z = rw k refl
   cursor-first p (pos (suc s)) h k z = absurd (let f : ⊥ = omega arith in f)
   cursor-first p (negsuc s) h k z = absurd (true≢false h)
 
-  pub cursor-finish : (p s : ℤ) → negative s ≡ false → negative p ≡ false → (nat s ≡ 0 → ⊥) → records t ≤ nat p → true ≡ badCursor t l p s
-  unfolding badCursor
+  pub cursor-finish : (p s : ℤ) → negative s ≡ false → negative p ≡ false → (nat s ≡ 0 → ⊥) → records t ≤ nat p → true ≡ bad_cursor t l p s
+  unfolding bad_cursor
   cursor-finish p (pos zero) h k z b = absurd (z refl)
   cursor-finish p (pos (suc s)) h k z b = rw (k, le-leb (records t) (nat p) b) refl
   cursor-finish p (negsuc s) h k z b = absurd (true≢false h)
 
-  pub cursor-strip : (p s : ℤ) → negative s ≡ false → negative p ≡ false → (nat s ≡ 0 → ⊥) → nat p < records t → leb (stripsOf (act t (nat p) l)) (nat s) ≡ badCursor t l p s
-  unfolding badCursor
+  pub cursor-strip : (p s : ℤ) → negative s ≡ false → negative p ≡ false → (nat s ≡ 0 → ⊥) → nat p < records t → leb (strips_of (act t (nat p) l)) (nat s) ≡ bad_cursor t l p s
+  unfolding bad_cursor
   cursor-strip p (pos zero) h k z b = absurd (z refl)
   cursor-strip p (pos (suc s)) h k z b = rw (k, lt-leb (records t) (nat p) b) refl
   cursor-strip p (negsuc s) h k z b = absurd (true≢false h)
@@ -81,19 +81,19 @@ module _ (t : Sheet) (l : Arrays) where
 -- ---- in turn
 
 module _ (t : Sheet) (l : Arrays) (answers : List ℤ) (p s : ℤ) where
-  pub refused-34 : not (sound t) ≡ true → 34 ≡ runRefusal t l answers p s
-  unfolding runRefusal
+  pub refused-34 : not (sound t) ≡ true → 34 ≡ run_refusal t l answers p s
+  unfolding run_refusal
   refused-34 h = sym (if-true (not (sound t)) 34 _ h)
 
   module _ (h : not (sound t) ≡ false) where
-    pub refused-35 : tooShort t answers ≡ true → 35 ≡ runRefusal t l answers p s
-    unfolding runRefusal
-    refused-35 k = sym (if-false (not (sound t)) 34 _ h ∙ if-true (tooShort t answers) 35 _ k)
+    pub refused-35 : too_short t answers ≡ true → 35 ≡ run_refusal t l answers p s
+    unfolding run_refusal
+    refused-35 k = sym (if-false (not (sound t)) 34 _ h ∙ if-true (too_short t answers) 35 _ k)
 
-    pub refused-36 : tooShort t answers ≡ false → badCursor t l p s ≡ true → 36 ≡ runRefusal t l answers p s
-    unfolding runRefusal
-    refused-36 k b = sym (if-false (not (sound t)) 34 _ h ∙ if-false (tooShort t answers) 35 _ k ∙ if-true (badCursor t l p s) 36 _ b)
+    pub refused-36 : too_short t answers ≡ false → bad_cursor t l p s ≡ true → 36 ≡ run_refusal t l answers p s
+    unfolding run_refusal
+    refused-36 k b = sym (if-false (not (sound t)) 34 _ h ∙ if-false (too_short t answers) 35 _ k ∙ if-true (bad_cursor t l p s) 36 _ b)
 
-    pub not-refused : tooShort t answers ≡ false → badCursor t l p s ≡ false → 0 ≡ runRefusal t l answers p s
-    unfolding runRefusal
-    not-refused k b = sym (if-false (not (sound t)) 34 _ h ∙ if-false (tooShort t answers) 35 _ k ∙ if-false (badCursor t l p s) 36 _ b)
+    pub not-refused : too_short t answers ≡ false → bad_cursor t l p s ≡ false → 0 ≡ run_refusal t l answers p s
+    unfolding run_refusal
+    not-refused k b = sym (if-false (not (sound t)) 34 _ h ∙ if-false (too_short t answers) 35 _ k ∙ if-false (bad_cursor t l p s) 36 _ b)

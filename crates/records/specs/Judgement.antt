@@ -5,7 +5,7 @@ use Rattle.arrays.specs.Choice.{if◌then◌else◌}
 use Rattle.definitions.specs.Call.{extent}
 use Rattle.definitions.specs.Check.{nat, negative, call_of, checked}
 use Rattle.definitions.specs.Machine.{Act, refuse}
-use Rattle.definitions.specs.Sheet.{Sheet, Arrays, A, B, index, field, badArrays, badOffsets, argsOf, accepted}
+use Rattle.definitions.specs.Sheet.{Sheet, Arrays, A, B, index, field, bad_arrays, bad_offsets, args_of, accepted}
 use Rattle.definitions.specs.declared.Routine.{Routine}
 use Rattle.definitions.specs.declared.Routine.TheVariants.{Gemm, Symm, Syrk, Syr2k, Trmm, Trsm}
 use Rattle.definitions.specs.declared.Call.{Call}
@@ -16,11 +16,11 @@ use Rattle.records.specs.declared.Part.{Part}
 use Rattle.records.specs.declared.Judged.{Judged}
 use Rattle.records.specs.declared.Judged.TheVariants.{Rejected, NoWork, Work}
 
-abbrev pub sheetOf : List ℤ → List Float → Sheet
-sheetOf words scalars = record { words = words; scalars = scalars }
+abbrev pub sheet_of : List ℤ → List Float → Sheet
+sheet_of words scalars = record { words = words; scalars = scalars }
 
-abbrev pub arraysOf : List Float → List Float → List Float → Arrays
-arraysOf x y z = record { x = x; y = y; z = z }
+abbrev pub arrays_of : List Float → List Float → List Float → Arrays
+arrays_of x y z = record { x = x; y = y; z = z }
 
 -- Record p begins at word `at`, and the sheet has all of it.
 abbrev pub At : Sheet → ℕ → ℕ → Type 0
@@ -35,8 +35,8 @@ sizes lx ly lz n = if eqb n 0 then lx else if eqb n 1 then ly else lz
 unfoldable pub known : ℤ → Bool
 known code = ltb 0 (nat code) && ltb (nat code) 7
 
-unfoldable pub routineAt : ℕ → Routine
-routineAt n =
+unfoldable pub routine_at : ℕ → Routine
+routine_at n =
     if eqb n 1 then Gemm else if eqb n 2 then Symm else if eqb n 3 then Syrk else if eqb n 4 then Syr2k else if eqb n 5 then Trmm else Trsm
 
 -- The matrix that is lent as B: A again in a routine that reads no other matrix.
@@ -49,14 +49,14 @@ part_at words at q = record { array = nat (get_or words (at + q) (pos 0)); offse
 
 -- ---- the tests 32 and 33, of the output, of A and of the matrix lent as B
 
-unfoldable pub badNumber : ℤ → Bool
-badNumber number = negative number || ltb 2 (nat number)
+unfoldable pub bad_number : ℤ → Bool
+bad_number number = negative number || ltb 2 (nat number)
 
-unfoldable pub badNumbers : ℤ → ℤ → ℤ → Bool
-badNumbers out a b = (badNumber out || (badNumber a || badNumber b)) || (eqb (nat a) (nat out) || eqb (nat b) (nat out))
+unfoldable pub bad_numbers : ℤ → ℤ → ℤ → Bool
+bad_numbers out a b = (bad_number out || (bad_number a || bad_number b)) || (eqb (nat a) (nat out) || eqb (nat b) (nat out))
 
-unfoldable pub badOffset : (ℕ → ℕ) → ℤ → ℤ → Bool
-badOffset size number offset = negative offset || ltb (size (nat number)) (nat offset)
+unfoldable pub bad_offset : (ℕ → ℕ) → ℤ → ℤ → Bool
+bad_offset size number offset = negative offset || ltb (size (nat number)) (nat offset)
 
 -- ---- all tests
 
@@ -68,18 +68,18 @@ settled (Ready k) c = Work k
 unfoldable pub judged : Sheet → ℕ → (ℕ → ℕ) → Option Routine → Judged
 judged t p size none = Rejected 31
 judged t p size (some f) =
-    let g = argsOf t p f size in
+    let g = args_of t p f size in
     let direct = settled (checked (field t p 18) (field t p 19) g) (call_of g) in
-    if badArrays t p f then Rejected 32 else if badOffsets t p f size then Rejected 33 else direct
+    if bad_arrays t p f then Rejected 32 else if bad_offsets t p f size then Rejected 33 else direct
 
 -- What the record does then.
-unfoldable pub actOf : Sheet → ℕ → Judged → Act Arrays
-actOf t p (Rejected e) = refuse e
-actOf t p (NoWork c) = accepted t p c.routine c
-actOf t p (Work c) = accepted t p c.routine c
+unfoldable pub act_of : Sheet → ℕ → Judged → Act Arrays
+act_of t p (Rejected e) = refuse e
+act_of t p (NoWork c) = accepted t p c.routine c
+act_of t p (Work c) = accepted t p c.routine c
 
 -- What its strips cut: 0 where there are none.
-unfoldable pub extentOf : Judged → ℕ
-extentOf (Rejected e) = 0
-extentOf (NoWork c) = extent c
-extentOf (Work c) = extent c
+unfoldable pub extent_of : Judged → ℕ
+extent_of (Rejected e) = 0
+extent_of (NoWork c) = extent c
+extent_of (Work c) = extent c

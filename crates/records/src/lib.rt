@@ -42,7 +42,7 @@ fn known(code: i32) -> bool
 }
 
 fn routine(n: u32) -> Routine
-    ensures { result ≡ Judgement.routineAt n }
+    ensures { result ≡ Judgement.routine_at n }
 {
     if n == 1 {
         return Routine::Gemm;
@@ -119,14 +119,14 @@ fn length_of(n: u32, lx: usize, ly: usize, lz: usize) -> usize
 
 // Not the number of a lent array.
 fn bad_number(number: i32) -> bool
-    ensures { result ≡ Judgement.badNumber number }
+    ensures { result ≡ Judgement.bad_number number }
 {
     arguments::negative(number) | (2 < arguments::size(number))
 }
 
 // The same, of the output, of A and of the matrix lent as B; or the output's array is also that of another matrix.
 fn bad_numbers(out: i32, a: i32, b: i32) -> bool
-    ensures { result ≡ Judgement.badNumbers out a b }
+    ensures { result ≡ Judgement.bad_numbers out a b }
 {
     let far = bad_number(out) | (bad_number(a) | bad_number(b));
     let o = arguments::size(out);
@@ -135,7 +135,7 @@ fn bad_numbers(out: i32, a: i32, b: i32) -> bool
 
 // Negative, or above the array's length.
 fn bad_offset(number: i32, offset: i32, lx: usize, ly: usize, lz: usize) -> bool
-    ensures { result ≡ Judgement.badOffset (Judgement.sizes lx ly lz) number offset }
+    ensures { result ≡ Judgement.bad_offset (Judgement.sizes lx ly lz) number offset }
 {
     let length = length_of(arguments::size(number), lx, ly, lz);
     arguments::negative(offset) | (length < arguments::size(offset) as usize)
@@ -143,7 +143,7 @@ fn bad_offset(number: i32, offset: i32, lx: usize, ly: usize, lz: usize) -> bool
 
 fn bad_arrays(sheet: &[i32], at: usize, routine: Routine) -> bool
     requires { at + 20 ≤ length sheet.now }
-    ensures { (t : SheetOf) (p : ℕ) → t.words ≡ sheet.now → Judgement.At t p at → result ≡ Sheet.badArrays t p routine }
+    ensures { (t : SheetOf) (p : ℕ) → t.words ≡ sheet.now → Judgement.At t p at → result ≡ Sheet.bad_arrays t p routine }
 {
     let out = word(sheet, at, output(routine));
     let a = word(sheet, at, 9);
@@ -153,7 +153,7 @@ fn bad_arrays(sheet: &[i32], at: usize, routine: Routine) -> bool
 
 fn bad_offsets(sheet: &[i32], at: usize, routine: Routine, lx: usize, ly: usize, lz: usize) -> bool
     requires { at + 20 ≤ length sheet.now }
-    ensures { (t : SheetOf) (p : ℕ) → t.words ≡ sheet.now → Judgement.At t p at → result ≡ Sheet.badOffsets t p routine (Judgement.sizes lx ly lz) }
+    ensures { (t : SheetOf) (p : ℕ) → t.words ≡ sheet.now → Judgement.At t p at → result ≡ Sheet.bad_offsets t p routine (Judgement.sizes lx ly lz) }
 {
     let o = output(routine);
     let s = second(routine);
@@ -186,8 +186,8 @@ fn args_of(
     lz: usize,
 ) -> Args
     requires { at + 20 ≤ length sheet.now }
-    ensures { ((t : SheetOf) (p : ℕ) → t.words ≡ sheet.now → Judgement.At t p at → alpha ≡ Sheet.alphaOf t p → beta ≡ Sheet.betaOf t p
-        → result ≡ Sheet.argsOf t p routine (Judgement.sizes lx ly lz)) × (Check.nat result.m < 2 ^ 31) × (Check.nat result.n < 2 ^ 31) }
+    ensures { ((t : SheetOf) (p : ℕ) → t.words ≡ sheet.now → Judgement.At t p at → alpha ≡ Sheet.alpha_of t p → beta ≡ Sheet.beta_of t p
+        → result ≡ Sheet.args_of t p routine (Judgement.sizes lx ly lz)) × (Check.nat result.m < 2 ^ 31) × (Check.nat result.n < 2 ^ 31) }
 {
     let first = Scalar::of(alpha);
     let then = Scalar::of(beta);
@@ -237,9 +237,9 @@ pub fn judge(
     ly: usize,
     lz: usize,
 ) -> Judged
-    requires { Judgement.At (Judgement.sheetOf sheet.now scalars.now) p at × (2 * p + 1 < length scalars.now) }
-    ensures { (result ≡ Judgement.judged (Judgement.sheetOf sheet.now scalars.now) p (Judgement.sizes lx ly lz)
-        (Sheet.routine_of (Sheet.field (Judgement.sheetOf sheet.now scalars.now) p 0))) × (Judgement.extentOf result < 2 ^ 31) }
+    requires { Judgement.At (Judgement.sheet_of sheet.now scalars.now) p at × (2 * p + 1 < length scalars.now) }
+    ensures { (result ≡ Judgement.judged (Judgement.sheet_of sheet.now scalars.now) p (Judgement.sizes lx ly lz)
+        (Sheet.routine_of (Sheet.field (Judgement.sheet_of sheet.now scalars.now) p 0))) × (Judgement.extent_of result < 2 ^ 31) }
 {
     let code = word(sheet, at, 0);
     if !known(code) {
@@ -269,7 +269,7 @@ pub fn size_at(sheet: &[i32], at: usize) -> usize
 
 // 34: the trailer is bad.
 fn bad_trailer(sheet: &[i32]) -> bool
-    ensures { (scalars : List Float) → result ≡ not (Sheet.sound (Judgement.sheetOf sheet.now scalars)) }
+    ensures { (scalars : List Float) → result ≡ not (Sheet.sound (Judgement.sheet_of sheet.now scalars)) }
 {
     let length = sheet.len();
     if length < 2 {
@@ -301,8 +301,8 @@ fn strips_of(
     y: &[f64],
     z: &[f64],
 ) -> usize
-    requires { Judgement.At (Judgement.sheetOf sheet.now scalars.now) p at × (2 * p + 1 < length scalars.now) }
-    ensures { result ≡ Machine.stripsOf (Sheet.act (Judgement.sheetOf sheet.now scalars.now) p (Judgement.arraysOf x.now y.now z.now)) }
+    requires { Judgement.At (Judgement.sheet_of sheet.now scalars.now) p at × (2 * p + 1 < length scalars.now) }
+    ensures { result ≡ Machine.strips_of (Sheet.act (Judgement.sheet_of sheet.now scalars.now) p (Judgement.arrays_of x.now y.now z.now)) }
 {
     let v = judge(sheet, scalars, at, p, x.len(), y.len(), z.len());
     match v {
@@ -330,9 +330,9 @@ fn bad_cursor(
     p: i32,
     s: i32,
 ) -> bool
-    requires index_value { (index ≡ Check.nat (Sheet.index (Judgement.sheetOf sheet.now scalars.now))) × (count ≡ Sheet.records (Judgement.sheetOf sheet.now scalars.now)) }
+    requires index_value { (index ≡ Check.nat (Sheet.index (Judgement.sheet_of sheet.now scalars.now))) × (count ≡ Sheet.records (Judgement.sheet_of sheet.now scalars.now)) }
     requires count_in_bounds { (index + 20 * count ≤ length sheet.now) × (2 * count ≤ length scalars.now) }
-    ensures { result ≡ Run.badCursor (Judgement.sheetOf sheet.now scalars.now) (Judgement.arraysOf x.now y.now z.now) p s }
+    ensures { result ≡ Run.bad_cursor (Judgement.sheet_of sheet.now scalars.now) (Judgement.arrays_of x.now y.now z.now) p s }
 {
     if arguments::negative(s) {
         return true;
@@ -362,7 +362,7 @@ pub fn refusal(
     p: i32,
     s: i32,
 ) -> u32
-    ensures { result ≡ Run.runRefusal (Judgement.sheetOf sheet.now scalars.now) (Judgement.arraysOf x.now y.now z.now)
+    ensures { result ≡ Run.run_refusal (Judgement.sheet_of sheet.now scalars.now) (Judgement.arrays_of x.now y.now z.now)
         answers.now p s }
 {
     if bad_trailer(sheet) {

@@ -16,38 +16,38 @@ use Rattle.definitions.specs.Machine.{iterate, made, reported}
 use Rattle.definitions.specs.Sheet.{Sheet, Arrays, sound, records, act}
 use Rattle.definitions.proofs.MachineLaws.{Placed}
 use Rattle.definitions.proofs.Runs.{cursor-placed}
-use Rattle.definitions.specs.Run.{begin, after, stepsMade, zeroReported, tooShort, badCursor, runRefusal, ran, ranTo, run}
+use Rattle.definitions.specs.Run.{begin, after, steps_made, zero_reported, too_short, bad_cursor, run_refusal, ran, ran_to, run}
 
 module _ (t : Sheet) (l : Arrays) (answers : List ℤ) (p s : ℤ) where
   abbrev e : ℕ
-  e = runRefusal t l answers p s
+  e = run_refusal t l answers p s
 
   pub number_small : e ≤ 36
-  unfolding runRefusal
+  unfolding run_refusal
   number_small =
       by-test (not (sound t))
       (λ h. rw h (omega arith))
-      (λ h. by-test (tooShort t answers) (λ k. rw (h, k) (omega arith)) (λ k. by-test (badCursor t l p s) (λ b. rw (h, k, b) (omega arith)) (λ b. rw (h, k, b) (omega arith))))
+      (λ h. by-test (too_short t answers) (λ k. rw (h, k) (omega arith)) (λ k. by-test (bad_cursor t l p s) (λ b. rw (h, k, b) (omega arith)) (λ b. rw (h, k, b) (omega arith))))
 
   -- what an accepted run satisfies
   pub record Passed : Type 0 where
     pub trailer : sound t ≡ true
-    pub long : tooShort t answers ≡ false
-    pub cursor : badCursor t l p s ≡ false
+    pub long : too_short t answers ≡ false
+    pub cursor : bad_cursor t l p s ≡ false
 
   pub passed : e ≡ 0 → Passed
-  unfolding runRefusal
+  unfolding run_refusal
   passed z =
       by-test (not (sound t))
       (λ h. absurd (let q : 34 ≡ 0 = sym (if-true (not (sound t)) 34 _ h) ∙ z in let f : ⊥ = omega arith in f))
       (λ h.
       let z1 = sym (if-false (not (sound t)) 34 _ h) ∙ z in
-      by-test (tooShort t answers)
-      (λ k. absurd (let q : 35 ≡ 0 = sym (if-true (tooShort t answers) 35 _ k) ∙ z1 in let f : ⊥ = omega arith in f))
+      by-test (too_short t answers)
+      (λ k. absurd (let q : 35 ≡ 0 = sym (if-true (too_short t answers) 35 _ k) ∙ z1 in let f : ⊥ = omega arith in f))
       (λ k.
-      let z2 = sym (if-false (tooShort t answers) 35 _ k) ∙ z1 in
-      by-test (badCursor t l p s)
-      (λ b. absurd (let q : 36 ≡ 0 = sym (if-true (badCursor t l p s) 36 _ b) ∙ z2 in let f : ⊥ = omega arith in f))
+      let z2 = sym (if-false (too_short t answers) 35 _ k) ∙ z1 in
+      by-test (bad_cursor t l p s)
+      (λ b. absurd (let q : 36 ≡ 0 = sym (if-true (bad_cursor t l p s) 36 _ b) ∙ z2 in let f : ⊥ = omega arith in f))
       (λ b. record { trailer = not-false (sound t) h; long = k; cursor = b })))
 
   pub run-refused : (budget n : ℕ) → n ≡ e → (n ≡ 0 → ⊥) → ran n p s 0 none l answers ≡ run t budget l answers p s
@@ -57,24 +57,24 @@ module _ (t : Sheet) (l : Arrays) (answers : List ℤ) (p s : ℤ) where
   pub run-goes : (budget n steps : ℕ) (z : ℤ) (l' : Arrays) (answers' : List ℤ) (p' s' : ℕ) (a b : ℤ) → a ≡ pos p' → b ≡ pos s' → e ≡ 0 → n ≡ records t
       → begin l' answers' p' s' ≡ iterate n (act t) budget (begin l answers (nat p) (nat s)) → steps ≡ made n (act t) budget (begin l answers (nat p) (nat s))
       → z ≡ reported n (act t) budget (begin l answers (nat p) (nat s)) → ran 0 a b steps z l' answers' ≡ run t budget l answers p s
-  unfolding run after stepsMade zeroReported begin
+  unfolding run after steps_made zero_reported begin
   run-goes budget n steps z l' answers' p' s' a b ea eb ok en eg es ez =
       let st = begin l answers (nat p) (nat s) in
       let here = eg ∙ ap (λ (k : ℕ). iterate k (act t) budget st) en in
       let many = es ∙ ap (λ (k : ℕ). made k (act t) budget st) en in
       let found = ez ∙ ap (λ (k : ℕ). reported k (act t) budget st) en in
-      (λ i. ran 0 (ea i) (eb i) steps z l' answers') ∙ (λ i. ranTo (here i) (many i) (found i)) ∙ sym (if-true (eqb e 0) _ _ (eq-eqb e 0 ok))
+      (λ i. ran 0 (ea i) (eb i) steps z l' answers') ∙ (λ i. ran_to (here i) (many i) (found i)) ∙ sym (if-true (eqb e 0) _ _ (eq-eqb e 0 ok))
 
 -- what "long enough" means
-pub long-enough : (t : Sheet) (answers : List ℤ) → tooShort t answers ≡ false → (records t ≤ length answers) × (2 * records t ≤ length t.scalars)
-unfolding tooShort
+pub long-enough : (t : Sheet) (answers : List ℤ) → too_short t answers ≡ false → (records t ≤ length answers) × (2 * records t ≤ length t.scalars)
+unfolding too_short
 long-enough t answers h = (
   ltb-false _ _ (or_left (ltb (length answers) (records t)) (ltb (length t.scalars) (2 * records t)) h),
   ltb-false _ _ (or_right (ltb (length answers) (records t)) (ltb (length t.scalars) (2 * records t)) h),
 )
 
 -- a cursor that is not refused is a sound one
-pub placed_at : (t : Sheet) (l : Arrays) (answers : List ℤ) (p s : ℤ) (n q u : ℕ) → n ≡ records t → q ≡ nat p → u ≡ nat s → badCursor t l p s ≡ false
+pub placed_at : (t : Sheet) (l : Arrays) (answers : List ℤ) (p s : ℤ) (n q u : ℕ) → n ≡ records t → q ≡ nat p → u ≡ nat s → bad_cursor t l p s ≡ false
     → Placed n (act t) (begin l answers q u)
 placed_at t l answers p s n q u en eq eu h =
     subst (λ (n : ℕ). Placed n (act t) (begin l answers q u)) (sym en)

@@ -1,7 +1,7 @@
 -- What a step lends of the three arrays to a strip, and what a run leaves in them.
 use Rattle.std.specs.Prelude.{ℕ, ◌-◌, ◌≤◌, ◌≡◌, List, ◌++◌, ℤ, length, take, drop}
 use Rattle.definitions.specs.Element.{strip, zero_of}
-use Rattle.definitions.specs.Sheet.{Arrays, array, withArray}
+use Rattle.definitions.specs.Sheet.{Arrays, array, with_array}
 use Rattle.definitions.specs.Run.{Ran}
 use Rattle.definitions.specs.declared.Call.{Call}
 use Rattle.definitions.specs.declared.RunEnd.{RunEnd}
@@ -9,20 +9,20 @@ use Rattle.strips.specs.Lengths.{FitsArrays}
 use Rattle.records.specs.declared.Part.{Part}
 
 -- What a run handed back and left in the lent lists.
-abbrev pub ranOf : RunEnd → Arrays → List ℤ → Ran
-ranOf end arrays answers = record { end = end; arrays = arrays; answers = answers }
+abbrev pub ran_of : RunEnd → Arrays → List ℤ → Ran
+ran_of end arrays answers = record { end = end; arrays = arrays; answers = answers }
 
 -- The arrays after the columns, or rows, from `from` on and below `to` of a call whose output, A and B are these matrices.
-unfoldable pub stripAt : Call → Part → Part → Part → ℕ → ℕ → Arrays → Arrays
-stripAt call out a b from to l =
+unfoldable pub strip_at : Call → Part → Part → Part → ℕ → ℕ → Arrays → Arrays
+strip_at call out a b from to l =
     let o = array l out.array in
-    withArray l out.array
+    with_array l out.array
     (take out.offset o
     ++ strip call (drop a.offset (array l a.array)) (drop b.offset (array l b.array)) from to (drop out.offset o))
 
 -- What the call reports, if its A is this matrix.
-unfoldable pub zeroAt : Call → Part → Arrays → ℤ
-zeroAt call a l = zero_of call.routine call (drop a.offset (array l a.array))
+unfoldable pub zero_at : Call → Part → Arrays → ℤ
+zero_at call a l = zero_of call.routine call (drop a.offset (array l a.array))
 
 -- The matrices are in lent arrays, the inputs in others than the output, and fit the call.
 pub record Lends (call : Call) (out a b : Part) (l : Arrays) : Type 0 where

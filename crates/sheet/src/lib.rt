@@ -13,7 +13,7 @@ ghost use Rattle.definitions.proofs.MachineLaws.{Placed};
 ghost use Rattle.strips.specs.Lengths.{FitsArrays};
 ghost use Rattle.records.specs.Judgement as Judgement;
 ghost use Rattle.sheet.specs.Lent as Lent;
-ghost use Rattle.records.specs.Judgement.{arraysOf};
+ghost use Rattle.records.specs.Judgement.{arrays_of};
 
 use definitions::{Call, RunEnd};
 use records::{Judged, Part};
@@ -84,10 +84,10 @@ fn put(
     cols: usize,
     r: usize,
 ) -> i32
-    requires lends { Lent.Lends call out a b (arraysOf x.old y.old z.old) }
+    requires lends { Lent.Lends call out a b (arrays_of x.old y.old z.old) }
     requires cols_nonzero { (0 < cols) × (cols ≤ 64) × (from + cols ≤ Calls.extent call) × (0 < r) × (r ≤ 64) }
-    ensures { (arraysOf x.new y.new z.new ≡ Lent.stripAt call out a b from (from + cols) (arraysOf x.old y.old z.old))
-        × (result ≡ Lent.zeroAt call a (arraysOf x.old y.old z.old)) }
+    ensures { (arrays_of x.new y.new z.new ≡ Lent.strip_at call out a b from (from + cols) (arrays_of x.old y.old z.old))
+        × (result ≡ Lent.zero_at call a (arrays_of x.old y.old z.old)) }
 {
     let n = out.array;
     let off = out.offset;
@@ -156,12 +156,12 @@ fn work(
     r: usize,
 ) -> bool
     requires lends { Lent.Lends call (Judgement.part_at sheet.now at (Sheet.output call.routine)) (Judgement.part_at sheet.now at Sheet.A)
-        (Judgement.part_at sheet.now at (Judgement.second call.routine)) (arraysOf x.old y.old z.old) }
+        (Judgement.part_at sheet.now at (Judgement.second call.routine)) (arrays_of x.old y.old z.old) }
     requires at_in_bounds { (at + 20 ≤ length sheet.now) × (s * w < Calls.extent call) × (0 < w) × (w ≤ 64) × (0 < r) × (r ≤ 64) }
-    ensures { (arraysOf x.new y.new z.new ≡ Lent.stripAt call (Judgement.part_at sheet.now at (Sheet.output call.routine))
+    ensures { (arrays_of x.new y.new z.new ≡ Lent.strip_at call (Judgement.part_at sheet.now at (Sheet.output call.routine))
         (Judgement.part_at sheet.now at Sheet.A) (Judgement.part_at sheet.now at (Judgement.second call.routine))
-        (s * w) (s * w + least w (Calls.extent call - s * w)) (arraysOf x.old y.old z.old))
-        × (result ≡ not (Check.negative (Lent.zeroAt call (Judgement.part_at sheet.now at Sheet.A) (arraysOf x.old y.old z.old)))) }
+        (s * w) (s * w + least w (Calls.extent call - s * w)) (arrays_of x.old y.old z.old))
+        × (result ≡ not (Check.negative (Lent.zero_at call (Judgement.part_at sheet.now at Sheet.A) (arrays_of x.old y.old z.old)))) }
 {
     let routine = call.routine;
     let out = records::part_at(sheet, at, records::output(routine));
@@ -211,13 +211,13 @@ fn step(
     p: usize,
     s: usize,
 ) -> Cursor
-    requires at { Judgement.At (Judgement.sheetOf sheet.now scalars.now) p at × (2 * p + 1 < length scalars.now) × (p < length answers.old) }
-    requires s_bound { (0 < s → s < Machine.stripsOf (Sheet.act (Judgement.sheetOf sheet.now scalars.now) p (arraysOf x.old y.old z.old))) × (s < 2 ^ 31) }
-    ensures { (Run.begin (arraysOf x.new y.new z.new) answers.new result.p result.s
-        ≡ Machine.perform (Sheet.act (Judgement.sheetOf sheet.now scalars.now) p (arraysOf x.old y.old z.old))
-        (Run.begin (arraysOf x.old y.old z.old) answers.old p s)) × (result.s < 2 ^ 31)
-        × (result.zero ≡ Machine.counts (Sheet.act (Judgement.sheetOf sheet.now scalars.now) p (arraysOf x.old y.old z.old))
-        (Run.begin (arraysOf x.old y.old z.old) answers.old p s)) }
+    requires at { Judgement.At (Judgement.sheet_of sheet.now scalars.now) p at × (2 * p + 1 < length scalars.now) × (p < length answers.old) }
+    requires s_bound { (0 < s → s < Machine.strips_of (Sheet.act (Judgement.sheet_of sheet.now scalars.now) p (arrays_of x.old y.old z.old))) × (s < 2 ^ 31) }
+    ensures { (Run.begin (arrays_of x.new y.new z.new) answers.new result.p result.s
+        ≡ Machine.perform (Sheet.act (Judgement.sheet_of sheet.now scalars.now) p (arrays_of x.old y.old z.old))
+        (Run.begin (arrays_of x.old y.old z.old) answers.old p s)) × (result.s < 2 ^ 31)
+        × (result.zero ≡ Machine.counts (Sheet.act (Judgement.sheet_of sheet.now scalars.now) p (arrays_of x.old y.old z.old))
+        (Run.begin (arrays_of x.old y.old z.old) answers.old p s)) }
 {
     let v = records::judge(sheet, scalars, at, p, x.len(), y.len(), z.len());
     match v {
@@ -269,17 +269,17 @@ fn go(
     s: usize,
     budget: u32,
 ) -> Went
-    requires index_value { (index ≡ Check.nat (Sheet.index (Judgement.sheetOf sheet.now scalars.now))) × (index + 20 * count ≤ length sheet.now)
+    requires index_value { (index ≡ Check.nat (Sheet.index (Judgement.sheet_of sheet.now scalars.now))) × (index + 20 * count ≤ length sheet.now)
         × (2 * count ≤ length scalars.now) × (count ≤ length answers.old) × (count < 2 ^ 31) }
-    requires placed { Placed count (Sheet.act (Judgement.sheetOf sheet.now scalars.now)) (Run.begin (arraysOf x.old y.old z.old) answers.old p s) × (s < 2 ^ 31) }
-    ensures { (Run.begin (arraysOf x.new y.new z.new) answers.new result.p result.s
-        ≡ Machine.iterate count (Sheet.act (Judgement.sheetOf sheet.now scalars.now)) budget
-        (Run.begin (arraysOf x.old y.old z.old) answers.old p s))
-        × (result.steps ≡ Machine.made count (Sheet.act (Judgement.sheetOf sheet.now scalars.now)) budget
-        (Run.begin (arraysOf x.old y.old z.old) answers.old p s))
+    requires placed { Placed count (Sheet.act (Judgement.sheet_of sheet.now scalars.now)) (Run.begin (arrays_of x.old y.old z.old) answers.old p s) × (s < 2 ^ 31) }
+    ensures { (Run.begin (arrays_of x.new y.new z.new) answers.new result.p result.s
+        ≡ Machine.iterate count (Sheet.act (Judgement.sheet_of sheet.now scalars.now)) budget
+        (Run.begin (arrays_of x.old y.old z.old) answers.old p s))
+        × (result.steps ≡ Machine.made count (Sheet.act (Judgement.sheet_of sheet.now scalars.now)) budget
+        (Run.begin (arrays_of x.old y.old z.old) answers.old p s))
         × (result.p ≤ count) × (result.s < 2 ^ 31)
-        × (result.zero ≡ Machine.reported count (Sheet.act (Judgement.sheetOf sheet.now scalars.now)) budget
-        (Run.begin (arraysOf x.old y.old z.old) answers.old p s)) }
+        × (result.zero ≡ Machine.reported count (Sheet.act (Judgement.sheet_of sheet.now scalars.now)) budget
+        (Run.begin (arrays_of x.old y.old z.old) answers.old p s)) }
 {
     let mut q = p;
     let mut t = s;
@@ -321,8 +321,8 @@ pub fn run(
     s: i32,
     budget: u32,
 ) -> RunEnd
-    ensures { Lent.ranOf result (arraysOf x.new y.new z.new) answers.new
-        ≡ Run.run (Judgement.sheetOf sheet.now scalars.now) budget (arraysOf x.old y.old z.old) answers.old p s }
+    ensures { Lent.ran_of result (arrays_of x.new y.new z.new) answers.new
+        ≡ Run.run (Judgement.sheet_of sheet.now scalars.now) budget (arrays_of x.old y.old z.old) answers.old p s }
 {
     let number = records::refusal(sheet, scalars, x, y, z, answers, p, s);
     if number != 0 {

@@ -1,7 +1,7 @@
 -- The arrays of a call that the argument check has accepted, and how many lines its routine takes at a time.
 use Rattle.std.specs.Prelude.{ℕ}
 use Rattle.arrays.specs.Choice.{if◌then◌else◌}
-use Rattle.definitions.specs.Call.{inPlace}
+use Rattle.definitions.specs.Call.{in_place}
 use Rattle.definitions.specs.declared.Call.{Call}
 use Rattle.definitions.specs.declared.Routine.{Routine}
 use Rattle.definitions.specs.declared.Routine.TheVariants.{Gemm, Symm, Syrk, Syr2k, Trmm, Trsm}
@@ -9,7 +9,7 @@ use Rattle.definitions.proofs.Fits.{Fits}
 
 -- Arrays of these lengths fit the call. TRMM and TRSM have their B in the output's array, and no C.
 abbrev pub FitsArrays : Call → ℕ → ℕ → ℕ → Type 0
-FitsArrays c a b out = Fits c.routine c a (if inPlace c.routine then out else b) out
+FitsArrays c a b out = Fits c.routine c a (if in_place c.routine then out else b) out
 
 -- A routine's update takes at most so many columns, or rows where strips cut rows.
 abbrev pub widest : Routine → ℕ

@@ -17,7 +17,7 @@ use Rattle.floats.specs.Array.{at}
 use Rattle.blocks.specs.Terms.{packed}
 use Rattle.blocks.proofs.TermLaws.{accumulate-same}
 use Rattle.packing.specs.Factor.{Matrix}
-use Rattle.kernel.specs.Panels.{halfPacked}
+use Rattle.kernel.specs.Panels.{half_packed}
 use Rattle.arrays.proofs.MaskLaws.{moved, moved_out, moved-across, lent-mask, nothing-done, mask-alone}
 use Rattle.arrays.proofs.TrapezoidLaws.{within, row_out, column-out, box-across, corner-across, columns-apart, columns-join, rest-fits, rest-apart, rest-join}
 use Rattle.packing.proofs.PackLaws.{held}
@@ -110,12 +110,12 @@ module _ (lower : Bool) (n x h : ℕ) (i j : ℕ) where
 pub slab-more : (lower : Bool) (ld n x h k : ℕ) (M L : Matrix) (u₀ u t l m ys : List Float) → 0 < ld → x + h ≤ ld → x ≤ length l → h ≤ 64 → k * 64 ≤ length u₀
     → u ≡ update (region 64 h k (λ y z _. M y z)) u₀
     → ((y z : ℕ) → M y z ≡ L (x + y) z)
-    → m ≡ update (entries ld (only (corner lower x n) (halfPacked k t L))) l
+    → m ≡ update (entries ld (only (corner lower x n) (half_packed k t L))) l
     → ys ≡ update (entries ld (only (slab lower x h n) (packed k u t))) (take (length m - x) (drop x m))
-    → put_mid x (length m - x) m ys ≡ update (entries ld (only (corner lower (x + h) n) (halfPacked k t L))) l
-unfolding packed halfPacked
+    → put_mid x (length m - x) m ys ≡ update (entries ld (only (corner lower (x + h) n) (half_packed k t L))) l
+unfolding packed half_packed
 slab-more lower ld n x h k M L u₀ u t l m ys pos fit room few hu eu el em ey =
-    lent-mask nan ld pos x 0 x (corner lower x n) (slab lower x h n) (corner lower (x + h) n) (halfPacked k t L) (packed k u t) l m ys
+    lent-mask nan ld pos x 0 x (corner lower x n) (slab lower x h n) (corner lower (x + h) n) (half_packed k t L) (packed k u t) l m ys
     (omega arith) (omega arith) room em ey
     (λ i j z v.
     let a = within x n h j i (not lower) z in

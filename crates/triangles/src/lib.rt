@@ -3,9 +3,9 @@
 ghost use Rattle.std.specs.Prelude.{◌≡◌, false, ℕ, ◌+◌, ◌*◌, ◌≤◌, ◌<◌, length};
 ghost use Rattle.arrays.specs.Update.{update, entries, only, corner, trapezoid};
 ghost use Rattle.blocks.specs.Terms.{packed};
-ghost use Rattle.packing.specs.Factor.{Indices, isMirrored, index_of, entry_of, along};
-ghost use Rattle.kernel.specs.Panels.{halfPacked};
-ghost use Rattle.direct.specs.Product.{fromColumn, product};
+ghost use Rattle.packing.specs.Factor.{Indices, is_mirrored, index_of, entry_of, along};
+ghost use Rattle.kernel.specs.Panels.{half_packed};
+ghost use Rattle.direct.specs.Product.{from_column, product};
 ghost use Rattle.triangles.specs.Slab.{slab};
 
 use blocks::{block, pass};
@@ -60,7 +60,7 @@ fn square(
     requires order_nonzero { (0 < order) × (order ≤ ld) × (order * ld + order ≤ length c.old + ld) × (0 < r) × (r ≤ 64) × (4096 ≤ length u.old) × (order * 64 ≤ length t.now) }
     requires terms_nonzero { (0 < terms) × (terms ≤ 64) × (i0 + order < 18446744073709551616) × Indices false l0 terms }
     requires by_index { (i q : ℕ) → i < order → q < terms → index_of fa lda (i0 + i) (along false l0 q) < length a.now }
-    ensures { (c.new ≡ update (entries ld (only (corner lower order order) (halfPacked terms t.now (λ i q. entry_of fa a.now lda (i0 + i) (along false l0 q))))) c.old) × (length u.new ≡ length u.old) }
+    ensures { (c.new ≡ update (entries ld (only (corner lower order order) (half_packed terms t.now (λ i q. entry_of fa a.now lda (i0 + i) (along false l0 q))))) c.old) × (length u.new ≡ length u.old) }
 {
     let mut x = 0;
     while x < order {
@@ -91,7 +91,7 @@ fn panel(
     requires n_le_ld { (n ≤ ld) × (cols * ld + n ≤ length c.old + ld) × (0 < cols) × (from + cols ≤ n) × (0 < r) × (r ≤ 64) × (4096 ≤ length u.old) × (cols * 64 ≤ length t.now) }
     requires terms_nonzero { (0 < terms) × (terms ≤ 64) × Indices false l0 terms }
     requires by_index { (i q : ℕ) → i < n → q < terms → index_of fa lda i (along false l0 q) < length a.now }
-    ensures { (c.new ≡ update (entries ld (only (trapezoid lower from n cols) (halfPacked terms t.now (λ i q. entry_of fa a.now lda i (along false l0 q))))) c.old) × (length u.new ≡ length u.old) }
+    ensures { (c.new ≡ update (entries ld (only (trapezoid lower from n cols) (half_packed terms t.now (λ i q. entry_of fa a.now lda i (along false l0 q))))) c.old) × (length u.new ≡ length u.old) }
 {
     let end = from + cols;
     let top = arrays::pick(lower, end, 0);
@@ -151,7 +151,7 @@ fn by_panels(
 )
     requires n_le_ld { (n ≤ ld) × (cols * ld + n ≤ length c.old + ld) × (0 < cols) × (from + cols ≤ n) × (0 < r) × (r ≤ 64) × (4096 ≤ length u.old) × (cols * 64 ≤ length t.old) }
     requires by_index { ((i l : ℕ) → i < n → l < k → index_of fa lda i l < length a.now) × ((l j : ℕ) → l < k → j < n → index_of fb ldb l j < length b.now) }
-    ensures { c.new ≡ update (entries ld (only (trapezoid lower from n cols) (product alpha (entry_of fa a.now lda) (fromColumn from (entry_of fb b.now ldb)) false k))) c.old }
+    ensures { c.new ≡ update (entries ld (only (trapezoid lower from n cols) (product alpha (entry_of fa a.now lda) (from_column from (entry_of fb b.now ldb)) false k))) c.old }
 {
     let mut l = 0;
     while l < k {
@@ -183,7 +183,7 @@ fn blocked(
 )
     requires n_le_ld { (n ≤ ld) × (cols * ld + n ≤ length c.old + ld) × (0 < cols) × (from + cols ≤ n) × (0 < r) × (r ≤ 64) × (cols ≤ 64) }
     requires by_index { ((i l : ℕ) → i < n → l < k → index_of fa lda i l < length a.now) × ((l j : ℕ) → l < k → j < n → index_of fb ldb l j < length b.now) }
-    ensures { c.new ≡ update (entries ld (only (trapezoid lower from n cols) (product alpha (entry_of fa a.now lda) (fromColumn from (entry_of fb b.now ldb)) false k))) c.old }
+    ensures { c.new ≡ update (entries ld (only (trapezoid lower from n cols) (product alpha (entry_of fa a.now lda) (from_column from (entry_of fb b.now ldb)) false k))) c.old }
 {
     let mut u = [0.0f64; 4096];
     let mut t = [0.0f64; 4096];
@@ -212,7 +212,7 @@ fn wide(
 )
     requires n_le_ld { (n ≤ ld) × (cols * ld + n ≤ length c.old + ld) × (0 < cols) × (from + cols ≤ n) × (0 < r) × (r ≤ 64) × (cols ≤ 256) }
     requires by_index { ((i l : ℕ) → i < n → l < k → index_of fa lda i l < length a.now) × ((l j : ℕ) → l < k → j < n → index_of fb ldb l j < length b.now) }
-    ensures { c.new ≡ update (entries ld (only (trapezoid lower from n cols) (product alpha (entry_of fa a.now lda) (fromColumn from (entry_of fb b.now ldb)) false k))) c.old }
+    ensures { c.new ≡ update (entries ld (only (trapezoid lower from n cols) (product alpha (entry_of fa a.now lda) (from_column from (entry_of fb b.now ldb)) false k))) c.old }
 {
     let mut u = [0.0f64; 4096];
     let mut t = [0.0f64; 16384];
@@ -239,9 +239,9 @@ fn tiny(
     alpha: f64,
     r: usize,
 )
-    requires n_le_ld { (n ≤ ld) × (cols * ld + n ≤ length c.old + ld) × (0 < cols) × (from + cols ≤ n) × (0 < r) × (r ≤ 64) × (cols ≤ 256) × (isMirrored fa ≡ false) × (isMirrored fb ≡ false) }
+    requires n_le_ld { (n ≤ ld) × (cols * ld + n ≤ length c.old + ld) × (0 < cols) × (from + cols ≤ n) × (0 < r) × (r ≤ 64) × (cols ≤ 256) × (is_mirrored fa ≡ false) × (is_mirrored fb ≡ false) }
     requires by_index { ((i l : ℕ) → i < n → l < k → index_of fa lda i l < length a.now) × ((l j : ℕ) → l < k → j < n → index_of fb ldb l j < length b.now) }
-    ensures { c.new ≡ update (entries ld (only (trapezoid lower from n cols) (product alpha (entry_of fa a.now lda) (fromColumn from (entry_of fb b.now ldb)) false k))) c.old }
+    ensures { c.new ≡ update (entries ld (only (trapezoid lower from n cols) (product alpha (entry_of fa a.now lda) (from_column from (entry_of fb b.now ldb)) false k))) c.old }
 {
     let end = from + cols;
     let top = arrays::pick(lower, end, 0);
@@ -306,7 +306,7 @@ pub fn trapezoid(
 )
     requires n_le_ld { (n ≤ ld) × (cols * ld + n ≤ length c.old + ld) × (0 < cols) × (from + cols ≤ n) × (0 < r) × (r ≤ 64) × (cols ≤ 256) }
     requires by_index { ((i l : ℕ) → i < n → l < k → index_of fa lda i l < length a.now) × ((l j : ℕ) → l < k → j < n → index_of fb ldb l j < length b.now) }
-    ensures { c.new ≡ update (entries ld (only (trapezoid lower from n cols) (product alpha (entry_of fa a.now lda) (fromColumn from (entry_of fb b.now ldb)) false k))) c.old }
+    ensures { c.new ≡ update (entries ld (only (trapezoid lower from n cols) (product alpha (entry_of fa a.now lda) (from_column from (entry_of fb b.now ldb)) false k))) c.old }
 {
     if direct::is_tiny_triangle(fa, fb, cols, k) {
         tiny(

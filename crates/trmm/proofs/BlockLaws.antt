@@ -18,19 +18,19 @@ use Rattle.arrays.proofs.PartLaws.{tail-length, column-room}
 use Rattle.floats.specs.Array.{at}
 use Rattle.floats.specs.Operations.{◌⊕◌, ◌⊗◌, 0f, 1f}
 use Rattle.blocks.specs.Terms.{accumulate}
-use Rattle.definitions.specs.Storage.{withDiagonal}
+use Rattle.definitions.specs.Storage.{with_diagonal}
 use Rattle.definitions.specs.declared.Diagonal.{Diagonal}
 use Rattle.definitions.specs.declared.Transpose.{Transpose}
 use Rattle.definitions.specs.declared.Transpose.TheVariants.{No}
 use Rattle.packing.specs.Factor.{Matrix, index_of, entry_of, turn}
 use Rattle.packing.specs.declared.Form.{Form}
 use Rattle.packing.specs.declared.Form.TheVariants.{Plain}
-use Rattle.direct.specs.Product.{partly, product, fromRow, fromColumn}
-use Rattle.forms.specs.Forms.{opForm}
-use Rattle.lines.specs.Lines.{cell, grid, within, lineTerm, Room}
+use Rattle.direct.specs.Product.{partly, product, from_row, from_column}
+use Rattle.forms.specs.Forms.{op_form}
+use Rattle.lines.specs.Lines.{cell, grid, within, line_term, Room}
 use Rattle.lines.proofs.GridLaws.{cell-inside, grid-then, grid-same, grid-keep, grid-at}
 use Rattle.lines.proofs.TermLaws.{entry-from}
-use Rattle.trmm_diagonal.specs.Terms.{termFrom}
+use Rattle.trmm_diagonal.specs.Terms.{term_from}
 use Rattle.trmm_diagonal.proofs.ChosenLaws.{within-bounds, buffer-room}
 use Rattle.trmm.specs.Sum.{sum_of}
 use Rattle.trmm.proofs.SumLaws.{beside-term, sum-after, sum-before, sum-alone}
@@ -38,31 +38,31 @@ use Rattle.trmm.proofs.SumLaws.{beside-term, sum-after, sum-before, sum-alone}
 -- ---- the terms beside the block, by the general multiply
 
 module _ (alpha : Float) (t : Transpose) (a : List Float) (lda : ℕ) (b : List Float) (ld lines p₀ n lo count : ℕ) (z r : List Float)
-    (from : ℕ) {f : Form} (ef : f ≡ opForm t) where
+    (from : ℕ) {f : Form} (ef : f ≡ op_form t) where
   -- the factor that is a part of A, and the part of B
-  of-a : (i₀ j₀ i j : ℕ) → from ≡ index_of f lda i₀ j₀ → entry_of f (take (length a - from) (drop from a)) lda i j ≡ entry_of (opForm t) a lda (i₀ + i) (j₀ + j)
+  of-a : (i₀ j₀ i j : ℕ) → from ≡ index_of f lda i₀ j₀ → entry_of f (take (length a - from) (drop from a)) lda i j ≡ entry_of (op_form t) a lda (i₀ + i) (j₀ + j)
   of-a i₀ j₀ i j e = entry-from t a lda i₀ j₀ from ef e i j
 
   of-b : (x i₀ j₀ i j : ℕ) → x ≡ index_of Plain ld i₀ j₀ → entry_of Plain (take (length b - x) (drop x b)) ld i j ≡ entry_of Plain b ld (i₀ + i) (j₀ + j)
   of-b x i₀ j₀ i j e = entry-from No b ld i₀ j₀ x refl e i j
 
   pub left-beside : from ≡ index_of f lda p₀ lo
-      → r ≡ update (region 64 n lines (product alpha (fromRow 0 (entry_of f (take (length a - from) (drop from a)) lda)) (fromColumn 0 (entry_of Plain (take (length b - lo) (drop lo b)) ld)) false count)) z
-      → r ≡ update (grid true 64 n lines (λ q l e. fold (λ e i. lineTerm true alpha (entry_of (opForm t) a lda) (p₀ + q) e (lo + i) (at b (cell true ld (lo + i) l))) count e)) z
-  unfolding grid cell product partly accumulate lineTerm turn entry_of index_of
+      → r ≡ update (region 64 n lines (product alpha (from_row 0 (entry_of f (take (length a - from) (drop from a)) lda)) (from_column 0 (entry_of Plain (take (length b - lo) (drop lo b)) ld)) false count)) z
+      → r ≡ update (grid true 64 n lines (λ q l e. fold (λ e i. line_term true alpha (entry_of (op_form t) a lda) (p₀ + q) e (lo + i) (at b (cell true ld (lo + i) l))) count e)) z
+  unfolding grid cell product partly accumulate line_term turn entry_of index_of
   left-beside e er =
       er ∙ region-same 64 n lines _ _ z (omega arith)
       (λ q l hq hl s.
       fold_same _ _ count s
       (λ i hi s.
       ap₂ (λ (u v : Float). s ⊕ (alpha ⊗ v) ⊗ u)
-      (of-a p₀ lo (0 + q) i e ∙ ap (λ (k : ℕ). entry_of (opForm t) a lda (p₀ + k) (lo + i)) (zero-add q))
+      (of-a p₀ lo (0 + q) i e ∙ ap (λ (k : ℕ). entry_of (op_form t) a lda (p₀ + k) (lo + i)) (zero-add q))
       (of-b lo lo 0 i (0 + l) (omega arith) ∙ ap (λ (k : ℕ). entry_of Plain b ld (lo + i) k) (let k : 0 + (0 + l) ≡ l = omega arith in k))))
 
   pub right-beside : (x : ℕ) → x ≡ lo * ld → from ≡ index_of f lda lo p₀
-      → r ≡ update (region 64 lines n (product alpha (fromRow 0 (entry_of Plain (take (length b - x) (drop x b)) ld)) (fromColumn 0 (entry_of f (take (length a - from) (drop from a)) lda)) false count)) z
-      → r ≡ update (grid false 64 n lines (λ q l e. fold (λ e i. lineTerm false alpha (entry_of (opForm t) a lda) (p₀ + q) e (lo + i) (at b (cell false ld (lo + i) l))) count e)) z
-  unfolding grid cell product partly accumulate lineTerm turn entry_of index_of
+      → r ≡ update (region 64 lines n (product alpha (from_row 0 (entry_of Plain (take (length b - x) (drop x b)) ld)) (from_column 0 (entry_of f (take (length a - from) (drop from a)) lda)) false count)) z
+      → r ≡ update (grid false 64 n lines (λ q l e. fold (λ e i. line_term false alpha (entry_of (op_form t) a lda) (p₀ + q) e (lo + i) (at b (cell false ld (lo + i) l))) count e)) z
+  unfolding grid cell product partly accumulate line_term turn entry_of index_of
   right-beside x ex e er =
       er ∙ region-same 64 lines n _ _ z (omega arith)
       (λ l q hl hq s.
@@ -70,7 +70,7 @@ module _ (alpha : Float) (t : Transpose) (a : List Float) (lda : ℕ) (b : List 
       (λ i hi s.
       ap₂ (λ (u v : Float). s ⊕ (alpha ⊗ v) ⊗ u)
       (of-b x 0 lo (0 + l) i (omega arith) ∙ ap (λ (k : ℕ). entry_of Plain b ld k (lo + i)) (let k : 0 + (0 + l) ≡ l = omega arith in k))
-      (of-a lo p₀ i (0 + q) e ∙ ap (λ (k : ℕ). entry_of (opForm t) a lda (lo + i) (p₀ + k)) (zero-add q))))
+      (of-a lo p₀ i (0 + q) e ∙ ap (λ (k : ℕ). entry_of (op_form t) a lda (lo + i) (p₀ + k)) (zero-add q))))
 
 -- what is read of B is within it
 pub left-inside : (b : List Float) (ld m lines lo count : ℕ) → Room true ld m lines (length b) → lo + count ≤ m
@@ -94,45 +94,45 @@ none_beside left n lines count step z none =
 
 module _ (left after : Bool) (alpha : Float) (diag : Diagonal) (M : Matrix) (ld m lines p₀ n : ℕ) (b : List Float) where
   abbrev T : Matrix
-  T = withDiagonal 1f diag M
+  T = with_diagonal 1f diag M
 
   -- the diagonal block, and then the terms behind it
   pub sums-after : (rest lo : ℕ) (z d r : List Float) → p₀ + n + rest ≡ m → lo ≡ p₀ + n → after ≡ true
-      → d ≡ update (grid left 64 n lines (λ q l e. fold (termFrom left after alpha T p₀ (λ k. at b (cell left ld (p₀ + k) l)) (p₀ + q)) n e)) z
-      → r ≡ update (grid left 64 n lines (λ q l e. fold (λ e i. lineTerm left alpha M (p₀ + q) e (lo + i) (at b (cell left ld (lo + i) l))) rest e)) d
-      → r ≡ update (grid left 64 n lines (λ q l e. fold (termFrom left after alpha T 0 (λ p. at b (cell left ld p l)) (p₀ + q)) m e)) z
+      → d ≡ update (grid left 64 n lines (λ q l e. fold (term_from left after alpha T p₀ (λ k. at b (cell left ld (p₀ + k) l)) (p₀ + q)) n e)) z
+      → r ≡ update (grid left 64 n lines (λ q l e. fold (λ e i. line_term left alpha M (p₀ + q) e (lo + i) (at b (cell left ld (lo + i) l))) rest e)) d
+      → r ≡ update (grid left 64 n lines (λ q l e. fold (term_from left after alpha T 0 (λ p. at b (cell left ld p l)) (p₀ + q)) m e)) z
   sums-after rest lo z d r whole el a ed er =
       grid-then left 64 n lines _ _ _ z d r (omega arith) ed er
       (λ q l hq hl e.
       fold_same _ _ rest _
       (λ i hi e.
-      ap (λ (j : ℕ). lineTerm left alpha M (p₀ + q) e (j + i) (at b (cell left ld (j + i) l))) el
+      ap (λ (j : ℕ). line_term left alpha M (p₀ + q) e (j + i) (at b (cell left ld (j + i) l))) el
       ∙ beside-term left alpha diag M (p₀ + q) e (p₀ + n + i) _ (λ y. omega arith))
       ∙ sum-after left after alpha T (λ p. at b (cell left ld p l)) (p₀ + q) p₀ n rest m e whole a (omega arith) (omega arith))
 
   -- the terms before the diagonal block, and then the block
   pub sums-before : (rest : ℕ) (z d r : List Float) → p₀ + n + rest ≡ m → after ≡ false
-      → d ≡ update (grid left 64 n lines (λ q l e. fold (λ e i. lineTerm left alpha M (p₀ + q) e (0 + i) (at b (cell left ld (0 + i) l))) p₀ e)) z
-      → r ≡ update (grid left 64 n lines (λ q l e. fold (termFrom left after alpha T p₀ (λ k. at b (cell left ld (p₀ + k) l)) (p₀ + q)) n e)) d
-      → r ≡ update (grid left 64 n lines (λ q l e. fold (termFrom left after alpha T 0 (λ p. at b (cell left ld p l)) (p₀ + q)) m e)) z
+      → d ≡ update (grid left 64 n lines (λ q l e. fold (λ e i. line_term left alpha M (p₀ + q) e (0 + i) (at b (cell left ld (0 + i) l))) p₀ e)) z
+      → r ≡ update (grid left 64 n lines (λ q l e. fold (term_from left after alpha T p₀ (λ k. at b (cell left ld (p₀ + k) l)) (p₀ + q)) n e)) d
+      → r ≡ update (grid left 64 n lines (λ q l e. fold (term_from left after alpha T 0 (λ p. at b (cell left ld p l)) (p₀ + q)) m e)) z
   sums-before rest z d r whole a ed er =
       grid-then left 64 n lines _ _ _ z d r (omega arith) ed er
       (λ q l hq hl e.
-      ap (fold (termFrom left after alpha T p₀ (λ k. at b (cell left ld (p₀ + k) l)) (p₀ + q)) n)
+      ap (fold (term_from left after alpha T p₀ (λ k. at b (cell left ld (p₀ + k) l)) (p₀ + q)) n)
       (fold_same _ _ p₀ e (λ i hi e. beside-term left alpha diag M (p₀ + q) e (0 + i) _ (λ y. omega arith)))
       ∙ sum-before left after alpha T (λ p. at b (cell left ld p l)) (p₀ + q) p₀ n rest m e whole a (omega arith) (omega arith))
 
   -- the diagonal block, if there are no terms beside it
   pub sums-alone : (z r : List Float) → p₀ + n ≤ m → (after ≡ true → p₀ + n ≡ m) × (after ≡ false → p₀ ≡ 0)
-      → r ≡ update (grid false 64 n lines (λ q l e. fold (termFrom left after alpha T p₀ (λ k. at b (cell left ld (p₀ + k) l)) (p₀ + q)) n e)) z
-      → r ≡ update (grid false 64 n lines (λ q l e. fold (termFrom left after alpha T 0 (λ p. at b (cell left ld p l)) (p₀ + q)) m e)) z
+      → r ≡ update (grid false 64 n lines (λ q l e. fold (term_from left after alpha T p₀ (λ k. at b (cell left ld (p₀ + k) l)) (p₀ + q)) n e)) z
+      → r ≡ update (grid false 64 n lines (λ q l e. fold (term_from left after alpha T 0 (λ p. at b (cell left ld p l)) (p₀ + q)) m e)) z
   sums-alone z r fit alone er =
       er ∙ grid-same false 64 n lines _ _ z (omega arith)
       (λ q l hq hl e. sum-alone left after alpha T (λ p. at b (cell left ld p l)) (p₀ + q) p₀ n m e fit alone.0 alone.1 (omega arith) (omega arith))
 
   -- the sums from +0.0, which stand in z as `side` says, in the block's place
   pub block_made : (side : Bool) (z r : List Float) → 0 < ld → n ≤ 64 → lines ≤ 64 → 0 < n → 0 < lines
-      → z ≡ update (grid side 64 n lines (λ q l e. fold (termFrom left after alpha T 0 (λ p. at b (cell left ld p l)) (p₀ + q)) m e)) (replicate 4096 0f)
+      → z ≡ update (grid side 64 n lines (λ q l e. fold (term_from left after alpha T 0 (λ p. at b (cell left ld p l)) (p₀ + q)) m e)) (replicate 4096 0f)
       → r ≡ update (grid left ld m lines (λ q l e. if within p₀ n q then at z (cell side 64 (q - p₀) l) else e)) b
       → r ≡ update (grid left ld m lines (λ q l e. if within p₀ n q then sum_of left after alpha T m (λ p. at b (cell left ld p l)) q else e)) b
   unfolding sum_of
@@ -145,7 +145,7 @@ module _ (left after : Bool) (alpha : Float) (diag : Diagonal) (M : Matrix) (ld 
       let at-q : p₀ + (q - p₀) ≡ q = omega (arith, k) in
       let low : q - p₀ < n = omega (arith, k) in
       grid-at nan side 64 n lines _ (replicate 4096 0f) z (q - p₀) l room low hll ez
-      ∙ ap₂ (λ (q : ℕ) (s : Float). fold (termFrom left after alpha T 0 (λ p. at b (cell left ld p l)) q) m s) at-q
+      ∙ ap₂ (λ (q : ℕ) (s : Float). fold (term_from left after alpha T 0 (λ p. at b (cell left ld p l)) q) m s) at-q
       (get_or-replicate 4096 (cell side 64 (q - p₀) l) 0f nan (subst-length (cell-inside side 64 n lines _ (q - p₀) l room low hll))))
       (λ _. refl))
     where

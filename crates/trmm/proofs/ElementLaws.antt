@@ -14,18 +14,18 @@ use Rattle.arrays.proofs.Tests.{if-both, by-test}
 use Rattle.arrays.proofs.FoldLaws.{fold_same}
 use Rattle.floats.specs.Array.{at}
 use Rattle.floats.specs.Operations.{0f, 1f}
-use Rattle.definitions.specs.Storage.{withDiagonal}
+use Rattle.definitions.specs.Storage.{with_diagonal}
 use Rattle.definitions.specs.declared.Diagonal.{Diagonal}
 use Rattle.packing.specs.Factor.{Matrix, along}
-use Rattle.lines.specs.Lines.{cell, grid, within, lineTerm, coefficient}
-use Rattle.elements.specs.Sums.{termOf, begun, finished, lineSum, Summed}
+use Rattle.lines.specs.Lines.{cell, grid, within, line_term, coefficient}
+use Rattle.elements.specs.Sums.{term_of, begun, finished, line_sum, Summed}
 use Rattle.elements.specs.declared.Start.{Start}
 use Rattle.elements.specs.declared.Start.TheVariants.{Zero, OwnFirst}
 use Rattle.elements.specs.declared.End.{End}
 use Rattle.elements.specs.declared.End.TheVariants.{Sum, OwnLast}
 use Rattle.lines.proofs.GridLaws.{grid-same-at}
 use Rattle.elements.proofs.StrideLaws.{term_is}
-use Rattle.trmm_diagonal.specs.Terms.{termFrom}
+use Rattle.trmm_diagonal.specs.Terms.{term_from}
 use Rattle.trmm_diagonal.proofs.ChosenLaws.{within-bounds}
 use Rattle.trmm_diagonal.proofs.HasLaws.{has-own}
 use Rattle.trmm_diagonal.proofs.DiagonalLaws.{coefficient-own}
@@ -36,17 +36,17 @@ use Rattle.trmm.proofs.SumLaws.{beside-term, sum-after, sum-before}
 
 -- an element's own, which is a block of one
 own-term : (left after : Bool) (alpha : Float) (T : Matrix) (i : ℕ) (x : ℕ → Float) (w e : Float) → w ≡ T i i
-    → termOf left alpha w e (x i) ≡ fold (termFrom left after alpha T i (λ k. x (i + k)) i) 1 e
-unfolding fold termFrom among
+    → term_of left alpha w e (x i) ≡ fold (term_from left after alpha T i (λ k. x (i + k)) i) 1 e
+unfolding fold term_from among
 own-term left after alpha T i x w e h = rw (add-zero, has-own after i) (term_is left alpha T i i e (x i) w (h ∙ coefficient-own left T i))
 
 module _ (left : Bool) (alpha : Float) (diag : Diagonal) (M : Matrix) (i : ℕ) where
   abbrev T : Matrix
-  T = withDiagonal 1f diag M
+  T = with_diagonal 1f diag M
 
   -- those of n other elements, from lo on
   other-terms : (x : ℕ → Float) (lo n : ℕ) (e : Float) → ((k : ℕ) → k < n → i ≡ lo + k → ⊥)
-      → fold (λ e k. termOf left alpha (coefficient left M i (lo + k)) e (x (lo + k))) n e ≡ fold (λ e k. lineTerm left alpha T i e (lo + k) (x (lo + k))) n e
+      → fold (λ e k. term_of left alpha (coefficient left M i (lo + k)) e (x (lo + k))) n e ≡ fold (λ e k. line_term left alpha T i e (lo + k) (x (lo + k))) n e
   other-terms x lo n e other =
       fold_same _ _ n e
       (λ k h e.
@@ -58,8 +58,8 @@ module _ (left : Bool) (alpha : Float) (diag : Diagonal) (M : Matrix) (i : ℕ) 
       (es : start ≡ (if after then OwnFirst w else Zero)) (ee : end ≡ (if after then Sum else OwnLast w))
       (el : lo ≡ (if after then i + 1 else 0)) (ec : count ≡ (if after then m - 1 - i else i)) where
     sum_is : (x : ℕ → Float)
-        → lineSum left alpha start end (λ k. coefficient left M i (along false lo k)) (λ k. x (along false lo k)) count (x i) ≡ sum_of left after alpha T m x i
-    unfolding lineSum begun finished along sum_of
+        → line_sum left alpha start end (λ k. coefficient left M i (along false lo k)) (λ k. x (along false lo k)) count (x i) ≡ sum_of left after alpha T m x i
+    unfolding line_sum begun finished along sum_of
     sum_is x =
         by-test after
         (λ (z : after ≡ true).

@@ -5,11 +5,11 @@ ghost use Rattle.arrays.specs.Update.{update};
 ghost use Rattle.arrays.specs.Fold.{fold};
 ghost use Rattle.floats.specs.Array.{at};
 ghost use Rattle.floats.specs.Operations.{1f};
-ghost use Rattle.definitions.specs.Storage.{withDiagonal};
+ghost use Rattle.definitions.specs.Storage.{with_diagonal};
 ghost use Rattle.packing.specs.Factor.{index_of, entry_of};
-ghost use Rattle.forms.specs.Forms.{opForm};
-ghost use Rattle.lines.specs.Lines.{cell, grid, within, lineTerm, Room};
-ghost use Rattle.trmm_diagonal.specs.Terms.{termFrom};
+ghost use Rattle.forms.specs.Forms.{op_form};
+ghost use Rattle.lines.specs.Lines.{cell, grid, within, line_term, Room};
+ghost use Rattle.trmm_diagonal.specs.Terms.{term_from};
 ghost use Rattle.trmm.specs.Sum.{sum_of};
 
 use definitions::{Diagonal, Transpose};
@@ -34,8 +34,8 @@ fn beside_left(
 )
     requires n_nonzero { (0 < n) × (n ≤ 64) × (p0 + n ≤ m) × (0 < count) × (lo + count ≤ m) × (0 < lines) × (lines ≤ 64) × (0 < r) × (r ≤ 64) × (4096 ≤ length z.old) }
     requires room { Room true ld m lines (length b.now) }
-    requires by_index { (i j : ℕ) → i < m → j < m → index_of (opForm t) lda i j < length a.now }
-    ensures { z.new ≡ update (grid true 64 n lines (λ q l e. fold (λ e i. lineTerm true alpha (entry_of (opForm t) a.now lda) (p0 + q) e (lo + i) (at b.now (cell true ld (lo + i) l))) count e)) z.old }
+    requires by_index { (i j : ℕ) → i < m → j < m → index_of (op_form t) lda i j < length a.now }
+    ensures { z.new ≡ update (grid true 64 n lines (λ q l e. fold (λ e i. line_term true alpha (entry_of (op_form t) a.now lda) (p0 + q) e (lo + i) (at b.now (cell true ld (lo + i) l))) count e)) z.old }
 {
     let f = forms::op_form(t);
     let from = factor::place(f, lda, p0, lo);
@@ -78,8 +78,8 @@ fn beside_right(
 )
     requires n_nonzero { (0 < n) × (n ≤ 64) × (p0 + n ≤ m) × (0 < count) × (lo + count ≤ m) × (0 < lines) × (lines ≤ 64) × (0 < r) × (r ≤ 64) × (4096 ≤ length z.old) }
     requires room { Room false ld m lines (length b.now) }
-    requires by_index { (i j : ℕ) → i < m → j < m → index_of (opForm t) lda i j < length a.now }
-    ensures { z.new ≡ update (grid false 64 n lines (λ q l e. fold (λ e i. lineTerm false alpha (entry_of (opForm t) a.now lda) (p0 + q) e (lo + i) (at b.now (cell false ld (lo + i) l))) count e)) z.old }
+    requires by_index { (i j : ℕ) → i < m → j < m → index_of (op_form t) lda i j < length a.now }
+    ensures { z.new ≡ update (grid false 64 n lines (λ q l e. fold (λ e i. line_term false alpha (entry_of (op_form t) a.now lda) (p0 + q) e (lo + i) (at b.now (cell false ld (lo + i) l))) count e)) z.old }
 {
     let f = forms::op_form(t);
     let from = factor::place(f, lda, lo, p0);
@@ -124,8 +124,8 @@ fn beside(
 )
     requires n_nonzero { (0 < n) × (n ≤ 64) × (p0 + n ≤ m) × (lo + count ≤ m) × (0 < lines) × (lines ≤ 64) × (0 < r) × (r ≤ 64) × (4096 ≤ length z.old) }
     requires room { Room left ld m lines (length b.now) }
-    requires by_index { (i j : ℕ) → i < m → j < m → index_of (opForm t) lda i j < length a.now }
-    ensures { z.new ≡ update (grid left 64 n lines (λ q l e. fold (λ e i. lineTerm left alpha (entry_of (opForm t) a.now lda) (p0 + q) e (lo + i) (at b.now (cell left ld (lo + i) l))) count e)) z.old }
+    requires by_index { (i j : ℕ) → i < m → j < m → index_of (op_form t) lda i j < length a.now }
+    ensures { z.new ≡ update (grid left 64 n lines (λ q l e. fold (λ e i. line_term left alpha (entry_of (op_form t) a.now lda) (p0 + q) e (lo + i) (at b.now (cell left ld (lo + i) l))) count e)) z.old }
 {
     if count == 0 {
         return;
@@ -157,8 +157,8 @@ fn sums(
 )
     requires n_nonzero { (0 < n) × (n ≤ 64) × (p0 + n ≤ m) × (0 < lines) × (lines ≤ 64) × (0 < r) × (r ≤ 64) × (4096 ≤ length z.old) }
     requires room { Room left ld m lines (length b.now) }
-    requires by_index { (i j : ℕ) → i < m → j < m → index_of (opForm t) lda i j < length a.now }
-    ensures { z.new ≡ update (grid left 64 n lines (λ q l e. fold (termFrom left after alpha (withDiagonal 1f diag (entry_of (opForm t) a.now lda)) 0 (λ p. at b.now (cell left ld p l)) (p0 + q)) m e)) z.old }
+    requires by_index { (i j : ℕ) → i < m → j < m → index_of (op_form t) lda i j < length a.now }
+    ensures { z.new ≡ update (grid left 64 n lines (λ q l e. fold (term_from left after alpha (with_diagonal 1f diag (entry_of (op_form t) a.now lda)) 0 (λ p. at b.now (cell left ld p l)) (p0 + q)) m e)) z.old }
 {
     if after {
         trmm_diagonal::diagonal(
@@ -217,8 +217,8 @@ pub fn block(
 )
     requires n_nonzero { (0 < n) × (n ≤ 64) × (p0 + n ≤ m) × (0 < lines) × (lines ≤ 64) × (0 < r) × (r ≤ 64) }
     requires room { Room left ld m lines (length b.old) }
-    requires by_index { (i j : ℕ) → i < m → j < m → index_of (opForm t) lda i j < length a.now }
-    ensures { b.new ≡ update (grid left ld m lines (λ q l e. if within p0 n q then sum_of left after alpha (withDiagonal 1f diag (entry_of (opForm t) a.now lda)) m (λ p. at b.old (cell left ld p l)) q else e)) b.old }
+    requires by_index { (i j : ℕ) → i < m → j < m → index_of (op_form t) lda i j < length a.now }
+    ensures { b.new ≡ update (grid left ld m lines (λ q l e. if within p0 n q then sum_of left after alpha (with_diagonal 1f diag (entry_of (op_form t) a.now lda)) m (λ p. at b.old (cell left ld p l)) q else e)) b.old }
 {
     let mut z = [0.0f64; 4096];
     if is_alone(after, m, p0, n) {

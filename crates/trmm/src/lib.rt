@@ -5,18 +5,18 @@ ghost use Rattle.arrays.specs.Choice.{if◌then◌else◌};
 ghost use Rattle.arrays.specs.Update.{update};
 ghost use Rattle.floats.specs.Array.{at};
 ghost use Rattle.floats.specs.Operations.{0f, 1f};
-ghost use Rattle.definitions.specs.Number.{isZero};
-ghost use Rattle.definitions.specs.Storage.{withDiagonal};
-ghost use Rattle.definitions.specs.Call.{bySide, extent};
+ghost use Rattle.definitions.specs.Number.{is_zero};
+ghost use Rattle.definitions.specs.Storage.{with_diagonal};
+ghost use Rattle.definitions.specs.Call.{by_side, extent};
 ghost use Rattle.definitions.specs.Element.{StripOf};
 ghost use Rattle.definitions.specs.declared.Routine.TheVariants.{Trmm};
 ghost use Rattle.definitions.proofs.Fits.{Fits};
 ghost use Rattle.packing.specs.Factor.{index_of, entry_of};
-ghost use Rattle.forms.specs.Forms.{opForm};
+ghost use Rattle.forms.specs.Forms.{op_form};
 ghost use Rattle.lines.specs.Lines.{cell, grid, within, Room};
 ghost use Rattle.elements.specs.declared.Start.TheVariants.{Zero, OwnFirst};
 ghost use Rattle.elements.specs.declared.End.TheVariants.{Sum, OwnLast};
-ghost use Rattle.trmm.specs.Sum.{sum_of, lineValue};
+ghost use Rattle.trmm.specs.Sum.{sum_of, line_value};
 
 pub mod block;
 
@@ -49,8 +49,8 @@ fn sum_lines(
 )
     requires m_nonzero { (0 < m) × (0 < lines) × (lines ≤ 64) × (0 < r) × (r ≤ 64) }
     requires room { Room left ld m lines (length b.old) }
-    requires by_index { (i j : ℕ) → i < m → j < m → index_of (opForm t) lda i j < length a.now }
-    ensures { b.new ≡ update (grid left ld m lines (λ q l _. sum_of left after alpha (withDiagonal 1f diag (entry_of (opForm t) a.now lda)) m (λ p. at b.old (cell left ld p l)) q)) b.old }
+    requires by_index { (i j : ℕ) → i < m → j < m → index_of (op_form t) lda i j < length a.now }
+    ensures { b.new ≡ update (grid left ld m lines (λ q l _. sum_of left after alpha (with_diagonal 1f diag (entry_of (op_form t) a.now lda)) m (λ p. at b.old (cell left ld p l)) q)) b.old }
 {
     let mut k = 0;
     while k < m {
@@ -98,8 +98,8 @@ fn sum_element(
 )
     requires i_lt_m { i < m }
     requires room { Room left ld m lines (length b.old) }
-    requires by_index { (i j : ℕ) → i < m → j < m → index_of (opForm t) lda i j < length a.now }
-    ensures { b.new ≡ update (grid left ld m lines (λ q l e. if within i 1 q then sum_of left after alpha (withDiagonal 1f diag (entry_of (opForm t) a.now lda)) m (λ p. at b.old (cell left ld p l)) q else e)) b.old }
+    requires by_index { (i j : ℕ) → i < m → j < m → index_of (op_form t) lda i j < length a.now }
+    ensures { b.new ≡ update (grid left ld m lines (λ q l e. if within i 1 q then sum_of left after alpha (with_diagonal 1f diag (entry_of (op_form t) a.now lda)) m (λ p. at b.old (cell left ld p l)) q else e)) b.old }
 {
     let w = trmm_diagonal::pivot(diag, a, lda, i);
     let lo = arrays::pick(after, i + 1, 0);
@@ -139,8 +139,8 @@ fn sum_elements(
 )
     requires m_nonzero { (0 < m) × (0 < lines) }
     requires room { Room left ld m lines (length b.old) }
-    requires by_index { (i j : ℕ) → i < m → j < m → index_of (opForm t) lda i j < length a.now }
-    ensures { b.new ≡ update (grid left ld m lines (λ q l _. sum_of left after alpha (withDiagonal 1f diag (entry_of (opForm t) a.now lda)) m (λ p. at b.old (cell left ld p l)) q)) b.old }
+    requires by_index { (i j : ℕ) → i < m → j < m → index_of (op_form t) lda i j < length a.now }
+    ensures { b.new ≡ update (grid left ld m lines (λ q l _. sum_of left after alpha (with_diagonal 1f diag (entry_of (op_form t) a.now lda)) m (λ p. at b.old (cell left ld p l)) q)) b.old }
 {
     let mut k = 0;
     while k < m {
@@ -180,8 +180,8 @@ fn multiply_lines(
 )
     requires m_nonzero { (0 < m) × (0 < lines) × (lines ≤ 64) × (0 < r) × (r ≤ 64) }
     requires room { Room left ld m lines (length b.old) }
-    requires j_in_bounds { isZero alpha ≡ false → (i j : ℕ) → i < m → j < m → index_of (opForm t) lda i j < length a.now }
-    ensures { b.new ≡ update (grid left ld m lines (λ q l _. lineValue left after alpha (withDiagonal 1f diag (entry_of (opForm t) a.now lda)) m (λ p. at b.old (cell left ld p l)) q)) b.old }
+    requires j_in_bounds { is_zero alpha ≡ false → (i j : ℕ) → i < m → j < m → index_of (op_form t) lda i j < length a.now }
+    ensures { b.new ≡ update (grid left ld m lines (λ q l _. line_value left after alpha (with_diagonal 1f diag (entry_of (op_form t) a.now lda)) m (λ p. at b.old (cell left ld p l)) q)) b.old }
 {
     if alpha.is_zero() {
         clear_lines(left, b, ld, m, lines);
@@ -197,9 +197,9 @@ fn multiply_lines(
 
 // TRMM's strip of `lines` columns (side L) or rows (side R) from the one with number `from` on: b is the part of B that starts there, and blocks are of r elements.
 pub fn trmm_strip(call: Call, a: &[f64], b: &mut [f64], from: usize, lines: usize, r: usize)
-    requires by_index { (lenc : ℕ) × Fits Trmm call (length a.now) (bySide call.side (from * call.ldb) from + length b.old) lenc }
+    requires by_index { (lenc : ℕ) × Fits Trmm call (length a.now) (by_side call.side (from * call.ldb) from + length b.old) lenc }
     requires lines_nonzero { (0 < lines) × (lines ≤ 64) × (from + lines ≤ extent call) × (0 < r) × (r ≤ 64) }
-    ensures { (b₀ : List Float) → StripOf call a.now b₀ from (from + lines) (bySide call.side (from * call.ldb) from) b.old b.new }
+    ensures { (b₀ : List Float) → StripOf call a.now b₀ from (from + lines) (by_side call.side (from * call.ldb) from) b.old b.new }
 {
     let side = call.side;
     let uplo = call.uplo;

@@ -19,38 +19,38 @@ use Rattle.arrays.proofs.UpdateLaws.{lt-or-ge, same_or_not, length-update}
 use Rattle.floats.specs.Array.{at}
 use Rattle.floats.specs.Operations.{◌⊕◌, ◌⊗◌, 1f}
 use Rattle.floats.proofs.Laws.{⊗-comm}
-use Rattle.definitions.specs.Storage.{withDiagonal}
+use Rattle.definitions.specs.Storage.{with_diagonal}
 use Rattle.definitions.specs.declared.Diagonal.{Diagonal}
 use Rattle.definitions.specs.declared.Diagonal.TheVariants.{Unit, Nonunit}
 use Rattle.definitions.specs.declared.Transpose.{Transpose}
 use Rattle.definitions.specs.declared.Transpose.TheVariants.{No, Yes}
 use Rattle.packing.specs.Factor.{Matrix, index_of, entry_of, turn}
-use Rattle.forms.specs.Forms.{opForm}
-use Rattle.lines.specs.Lines.{cell, grid, lineTerm, coefficient, Beside}
+use Rattle.forms.specs.Forms.{op_form}
+use Rattle.lines.specs.Lines.{cell, grid, line_term, coefficient, Beside}
 use Rattle.lines.proofs.GridLaws.{grid-at, grid-same}
-use Rattle.trmm_diagonal.specs.Terms.{has, heldTerms, termFrom, Pivots}
+use Rattle.trmm_diagonal.specs.Terms.{has, held_terms, term_from, Pivots}
 use Rattle.trmm_diagonal.proofs.ChosenLaws.{buffer-room}
 use Rattle.trmm_diagonal.proofs.HasLaws.{has-from}
 
 -- ---- the entries of the diagonal
 
-pub unit-entry : (diag : Diagonal) (M : Matrix) (p : ℕ) → diag ≡ Unit → 1f ≡ withDiagonal 1f diag M p p
-unfolding withDiagonal
+pub unit-entry : (diag : Diagonal) (M : Matrix) (p : ℕ) → diag ≡ Unit → 1f ≡ with_diagonal 1f diag M p p
+unfolding with_diagonal
 unit-entry diag M p e = rw (e, eq-eqb p p refl) refl
 
-pub diagonal-index : (t : Transpose) (lda p : ℕ) → index_of (opForm t) lda p p ≡ p * lda + p
+pub diagonal-index : (t : Transpose) (lda p : ℕ) → index_of (op_form t) lda p p ≡ p * lda + p
 unfolding index_of
 diagonal-index No lda p = refl
 diagonal-index Yes lda p = refl
 
 pub stored-entry : (diag : Diagonal) (t : Transpose) (a : List Float) (lda p : ℕ) → diag ≡ Nonunit
-    → at a (p * lda + p) ≡ withDiagonal 1f diag (entry_of (opForm t) a lda) p p
-unfolding withDiagonal entry_of
+    → at a (p * lda + p) ≡ with_diagonal 1f diag (entry_of (op_form t) a lda) p p
+unfolding with_diagonal entry_of
 stored-entry diag t a lda p e = rw e (ap (at a) (sym (diagonal-index t lda p)))
 
 -- the entries beside the diagonal are those of the array
-pub beside : (diag : Diagonal) (M : Matrix) (i j : ℕ) → (i ≡ j → ⊥) → withDiagonal 1f diag M i j ≡ M i j
-unfolding withDiagonal
+pub beside : (diag : Diagonal) (M : Matrix) (i j : ℕ) → (i ≡ j → ⊥) → with_diagonal 1f diag M i j ≡ M i j
+unfolding with_diagonal
 beside Unit M i j h = rw (ne_eqb i j h)
 beside Nonunit M i j h = refl
 
@@ -61,7 +61,7 @@ unfolding has
 has-beside true i p h z = let k : i ≤ p = leb-true i p h in ⊎_elim (λ (u : i < p). u) (λ u. absurd (z (omega arith))) (lt-or-ge i p)
 has-beside false i p h z = let k : p ≤ i = leb-true p i h in ⊎_elim (λ (u : p < i). u) (λ u. absurd (z (omega arith))) (lt-or-ge p i)
 
-coefficient-beside : (left : Bool) (diag : Diagonal) (M : Matrix) (q p : ℕ) → (q ≡ p → ⊥) → coefficient left M q p ≡ coefficient left (withDiagonal 1f diag M) q p
+coefficient-beside : (left : Bool) (diag : Diagonal) (M : Matrix) (q p : ℕ) → (q ≡ p → ⊥) → coefficient left M q p ≡ coefficient left (with_diagonal 1f diag M) q p
 unfolding coefficient
 coefficient-beside true diag M q p h = sym (beside diag M q p h)
 coefficient-beside false diag M q p h = sym (beside diag M p q (λ z. h (sym z)))
@@ -77,7 +77,7 @@ module _ (diag : Diagonal) (a : List Float) (lda p₀ : ℕ) where
   no-pivots v = record { same_length = refl; own = λ i h t. let z : ⊥ = omega arith in absurd z; others = λ i p h z. refl }
 
   pub pivot-more : (v₀ v : List Float) (k : ℕ) (d : Float) → k < 64 → 4096 ≤ length v₀ → Pivots diag a lda p₀ k v₀ v
-      → ((t : Transpose) → d ≡ withDiagonal 1f diag (entry_of (opForm t) a lda) (p₀ + k) (p₀ + k))
+      → ((t : Transpose) → d ≡ with_diagonal 1f diag (entry_of (op_form t) a lda) (p₀ + k) (p₀ + k))
       → Pivots diag a lda p₀ (k + 1) v₀ (set v (k * 64 + k) d)
   pivot-more v₀ v k d few room s ed =
       record {
@@ -87,7 +87,7 @@ module _ (diag : Diagonal) (a : List Float) (lda p₀ : ℕ) where
             (λ (z : i < k). get_or-set_other v (k * 64 + k) (i * 64 + i) d nan (λ y. omega arith) ∙ s.own i z t)
             (λ z.
             let e : k ≡ i = omega arith in
-            subst (λ (j : ℕ). at (set v (k * 64 + k) d) (j * 64 + j) ≡ withDiagonal 1f diag (entry_of (opForm t) a lda) (p₀ + j) (p₀ + j)) e
+            subst (λ (j : ℕ). at (set v (k * 64 + k) d) (j * 64 + j) ≡ with_diagonal 1f diag (entry_of (op_form t) a lda) (p₀ + j) (p₀ + j)) e
             (get_or-set_same v (k * 64 + k) d nan (omega (arith, s.same_length)) ∙ ed t))
             (lt-or-ge i k);
         others = λ i p h z. get_or-set_other v (k * 64 + k) (i * 64 + p) d nan (λ y. z (omega arith)) ∙ s.others i p h z;
@@ -95,42 +95,42 @@ module _ (diag : Diagonal) (a : List Float) (lda p₀ : ℕ) where
 
   -- all of the diagonal, in the place of the coefficients' own
   pub triangle-held : (left after : Bool) (t : Transpose) (n : ℕ) (v₀ v : List Float) → n ≤ 64
-      → ((i p : ℕ) → i < n → p < n → Beside after i p → at v₀ (i * 64 + turn false n p) ≡ coefficient left (entry_of (opForm t) a lda) (p₀ + i) (p₀ + p))
+      → ((i p : ℕ) → i < n → p < n → Beside after i p → at v₀ (i * 64 + turn false n p) ≡ coefficient left (entry_of (op_form t) a lda) (p₀ + i) (p₀ + p))
       → Pivots diag a lda p₀ n v₀ v
-      → (i p : ℕ) → i < n → p < n → has after i p ≡ true → at v (i * 64 + p) ≡ coefficient left (withDiagonal 1f diag (entry_of (opForm t) a lda)) (p₀ + i) (p₀ + p)
+      → (i p : ℕ) → i < n → p < n → has after i p ≡ true → at v (i * 64 + p) ≡ coefficient left (with_diagonal 1f diag (entry_of (op_form t) a lda)) (p₀ + i) (p₀ + p)
   unfolding turn
   triangle-held left after t n v₀ v few coefficients s i p hi hp h =
       ⊎_elim
       (λ (z : i ≡ p).
-      subst (λ (k : ℕ). at v (i * 64 + k) ≡ coefficient left (withDiagonal 1f diag (entry_of (opForm t) a lda)) (p₀ + i) (p₀ + k)) z
-      (s.own i hi t ∙ coefficient-own left (withDiagonal 1f diag (entry_of (opForm t) a lda)) (p₀ + i)))
+      subst (λ (k : ℕ). at v (i * 64 + k) ≡ coefficient left (with_diagonal 1f diag (entry_of (op_form t) a lda)) (p₀ + i) (p₀ + k)) z
+      (s.own i hi t ∙ coefficient-own left (with_diagonal 1f diag (entry_of (op_form t) a lda)) (p₀ + i)))
       (λ z.
       s.others i p (omega arith) z ∙ coefficients i p hi hp (has-beside after i p h z)
-      ∙ coefficient-beside left diag (entry_of (opForm t) a lda) (p₀ + i) (p₀ + p) (λ y. z (omega arith)))
+      ∙ coefficient-beside left diag (entry_of (op_form t) a lda) (p₀ + i) (p₀ + p) (λ y. z (omega arith)))
       (same_or_not i p)
 
 -- ---- the terms
 
 -- the factors that are held, by the side: alpha is in u for side L and in v for side R
-term-left : (alpha : Float) (T : Matrix) (q p : ℕ) (e x v u : Float) → v ≡ coefficient true T q p → u ≡ alpha ⊗ x → e ⊕ v ⊗ u ≡ lineTerm true alpha T q e p x
-unfolding coefficient lineTerm
+term-left : (alpha : Float) (T : Matrix) (q p : ℕ) (e x v u : Float) → v ≡ coefficient true T q p → u ≡ alpha ⊗ x → e ⊕ v ⊗ u ≡ line_term true alpha T q e p x
+unfolding coefficient line_term
 term-left alpha T q p e x v u ev eu = ap₂ (λ (s r : Float). e ⊕ s ⊗ r) ev eu ∙ ap (λ (r : Float). e ⊕ r) (⊗-comm (T q p) (alpha ⊗ x))
 
-term-right : (alpha : Float) (T : Matrix) (q p : ℕ) (e x v u : Float) → v ≡ alpha ⊗ coefficient false T q p → u ≡ x → e ⊕ v ⊗ u ≡ lineTerm false alpha T q e p x
-unfolding coefficient lineTerm
+term-right : (alpha : Float) (T : Matrix) (q p : ℕ) (e x v u : Float) → v ≡ alpha ⊗ coefficient false T q p → u ≡ x → e ⊕ v ⊗ u ≡ line_term false alpha T q e p x
+unfolding coefficient line_term
 term-right alpha T q p e x v u ev eu = ap₂ (λ (s r : Float). e ⊕ s ⊗ r) ev eu
 
 module _ (after : Bool) (alpha : Float) (T : Matrix) (p₀ n lines : ℕ) (X : ℕ → ℕ → Float) where
   -- all terms, if each is
   terms-held : (left : Bool) (u v : List Float) (q l : ℕ) (e : Float)
-      → ((p : ℕ) → p < n → has after q p ≡ true → (e : Float) → e ⊕ at v (q * 64 + p) ⊗ at u (p * 64 + l) ≡ lineTerm left alpha T (p₀ + q) e (p₀ + p) (X p l))
-      → heldTerms after n u v q l e ≡ fold (termFrom left after alpha T p₀ (λ k. X k l) (p₀ + q)) n e
-  unfolding heldTerms termFrom among
+      → ((p : ℕ) → p < n → has after q p ≡ true → (e : Float) → e ⊕ at v (q * 64 + p) ⊗ at u (p * 64 + l) ≡ line_term left alpha T (p₀ + q) e (p₀ + p) (X p l))
+      → held_terms after n u v q l e ≡ fold (term_from left after alpha T p₀ (λ k. X k l) (p₀ + q)) n e
+  unfolding held_terms term_from among
   terms-held left u v q l e h =
       fold_same _ _ n e
       (λ p b e.
       if-both (has after q p) _ e _ e (λ k. h p b k e) (λ _. refl)
-      ∙ ap (λ (t : Bool). if t then lineTerm left alpha T (p₀ + q) e (p₀ + p) (X p l) else e) (has-from after p₀ q p))
+      ∙ ap (λ (t : Bool). if t then line_term left alpha T (p₀ + q) e (p₀ + p) (X p l) else e) (has-from after p₀ q p))
 
   module _ (x₀ x v z r : List Float) (hn : n ≤ 64) (hl : lines ≤ 64) (sn : 0 < n) (sl : 0 < lines) (room : 4096 ≤ length x₀)
       (ex : x ≡ update (grid false 64 n lines (λ q l _. X q l)) x₀) where
@@ -144,8 +144,8 @@ module _ (after : Bool) (alpha : Float) (T : Matrix) (p₀ n lines : ℕ) (X : �
     -- side L: the values times alpha
     pub across-left : (left : Bool) → left ≡ true → (u : List Float) → u ≡ update (region 64 lines n (λ i j y. alpha ⊗ y)) x
         → ((q p : ℕ) → q < n → p < n → has after q p ≡ true → at v (q * 64 + p) ≡ coefficient left T (p₀ + q) (p₀ + p))
-        → r ≡ update (grid false 64 n lines (λ q l e. heldTerms after n u v q l e)) z
-        → r ≡ update (grid false 64 n lines (λ q l e. fold (termFrom left after alpha T p₀ (λ k. X k l) (p₀ + q)) n e)) z
+        → r ≡ update (grid false 64 n lines (λ q l e. held_terms after n u v q l e)) z
+        → r ≡ update (grid false 64 n lines (λ q l e. fold (term_from left after alpha T p₀ (λ k. X k l) (p₀ + q)) n e)) z
     unfolding grid cell
     across-left left side u eu ev er =
         rw side
@@ -159,8 +159,8 @@ module _ (after : Bool) (alpha : Float) (T : Matrix) (p₀ n lines : ℕ) (X : �
     -- side R: the coefficients times alpha
     pub across-right : (left : Bool) → left ≡ false → (w : List Float) → 4096 ≤ length v → w ≡ update (region 64 n n (λ i j y. alpha ⊗ y)) v
         → ((q p : ℕ) → q < n → p < n → has after q p ≡ true → at v (q * 64 + p) ≡ coefficient left T (p₀ + q) (p₀ + p))
-        → r ≡ update (grid false 64 n lines (λ q l e. heldTerms after n x w q l e)) z
-        → r ≡ update (grid false 64 n lines (λ q l e. fold (termFrom left after alpha T p₀ (λ k. X k l) (p₀ + q)) n e)) z
+        → r ≡ update (grid false 64 n lines (λ q l e. held_terms after n x w q l e)) z
+        → r ≡ update (grid false 64 n lines (λ q l e. fold (term_from left after alpha T p₀ (λ k. X k l) (p₀ + q)) n e)) z
     unfolding grid cell
     across-right left side w held ew ev er =
         rw side

@@ -22,7 +22,7 @@ use Rattle.floats.specs.Operations.{◌⊕◌, ◌⊗◌}
 use Rattle.blocks.specs.Terms.{accumulate, packed}
 use Rattle.lines.specs.Lines.{cell, grid, within}
 use Rattle.lines.proofs.GridLaws.{within_in, grid-then, grid-same-at, grid-at, grid-lent}
-use Rattle.trmm_diagonal.specs.Terms.{has, heldTerms}
+use Rattle.trmm_diagonal.specs.Terms.{has, held_terms}
 use Rattle.trmm_diagonal.proofs.ChosenLaws.{within-bounds, buffer-room}
 use Rattle.trmm_diagonal.proofs.HasLaws.{has-after, has-not-after, has-before, has-not-before, has-from, block-then-after, before-then-block}
 
@@ -86,34 +86,34 @@ module _ (after : Bool) (n lines : ℕ) (u v : List Float) where
       (tail_at (lo * 64) u (i * 64 + l) nan ∙ ap (at u) (omega arith))
 
   column-terms : (j lo count l : ℕ) (e : Float) → Span after n j lo count
-      → packed count (take (length u - lo * 64) (drop (lo * 64) u)) (take (length v - (j * 64 + lo)) (drop (j * 64 + lo) v)) l 0 e ≡ heldTerms after n u v j l e
-  unfolding packed accumulate heldTerms
+      → packed count (take (length u - lo * 64) (drop (lo * 64) u)) (take (length v - (j * 64 + lo)) (drop (j * 64 + lo) v)) l 0 e ≡ held_terms after n u v j l e
+  unfolding packed accumulate held_terms
   column-terms j lo count l e s =
       fold_same _ _ count e (λ i b x. part-term j lo 0 j l i x (omega arith))
       ∙ sym (among-range (has after j) (λ e p. e ⊕ at v (j * 64 + p) ⊗ at u (p * 64 + l)) lo count n e s.high s.before s.inside s.behind)
 
   -- ---- a turn of the walk: the elements before j are done
 
-  pub walk_none : (s : List Float) → s ≡ update (grid false 64 0 lines (λ q l e. heldTerms after n u v q l e)) s
+  pub walk_none : (s : List Float) → s ≡ update (grid false 64 0 lines (λ q l e. held_terms after n u v q l e)) s
   unfolding grid
   walk_none s = region-no-columns 64 lines _ s
 
   pub walk_more : (j lo count : ℕ) (s₀ s ys : List Float) → lines ≤ 64 → j * 64 ≤ length s₀ → Span after n j lo count
-      → s ≡ update (grid false 64 j lines (λ q l e. heldTerms after n u v q l e)) s₀
+      → s ≡ update (grid false 64 j lines (λ q l e. held_terms after n u v q l e)) s₀
       → ys ≡ update (below lines (λ l e. packed count (take (length u - lo * 64) (drop (lo * 64) u)) (take (length v - (j * 64 + lo)) (drop (j * 64 + lo) v)) l 0 e)) (take (length s - j * 64) (drop (j * 64) s))
-      → put_mid (j * 64) (length s - j * 64) s ys ≡ update (grid false 64 (j + 1) lines (λ q l e. heldTerms after n u v q l e)) s₀
+      → put_mid (j * 64) (length s - j * 64) s ys ≡ update (grid false 64 (j + 1) lines (λ q l e. held_terms after n u v q l e)) s₀
   unfolding grid
   walk_more j lo count s₀ s ys few low span es ey =
-      region-column nan 64 (omega arith) lines j (λ l q e. heldTerms after n u v q l e) s₀ s ys few low es
+      region-column nan 64 (omega arith) lines j (λ l q e. held_terms after n u v q l e) s₀ s ys few low es
       (ey ∙ below-same _ _ (take (length s - j * 64) (drop (j * 64) s)) lines (λ l b e. column-terms j lo count l e span))
 
   -- ---- a group of h elements from the j-th on: its own triangle, and the terms on one side of it
 
   -- the terms of the group for its own elements
   own-terms : (j h q l : ℕ) (e : Float)
-      → heldTerms after h (take (length u - j * 64) (drop (j * 64) u)) (take (length v - (j * 64 + j)) (drop (j * 64 + j) v)) q l e
+      → held_terms after h (take (length u - j * 64) (drop (j * 64) u)) (take (length v - (j * 64 + j)) (drop (j * 64 + j) v)) q l e
       ≡ fold (λ e i. among (has after (j + q)) (λ e p. e ⊕ at v ((j + q) * 64 + p) ⊗ at u (p * 64 + l)) e (j + i)) h e
-  unfolding heldTerms among
+  unfolding held_terms among
   own-terms j h q l e =
       fold_same _ _ h e (λ i b x. ap₂ (λ (t : Bool) (r : Float). if t then r else x) (has-from after j q i) (part-term j j q (j + q) l i x refl))
 
@@ -122,8 +122,8 @@ module _ (after : Bool) (n lines : ℕ) (u v : List Float) where
     lent-twice : (f g : ℕ → ℕ → Float → Float) (ys c zs : List Float) → c ≡ put_mid (j * 64) (length s - j * 64) s ys
         → ys ≡ update (grid false 64 h lines f) (take (length s - j * 64) (drop (j * 64) s))
         → zs ≡ update (grid false 64 h lines g) (take (length c - j * 64) (drop (j * 64) c))
-        → ((q l : ℕ) → q < h → (e : Float) → g q l (f q l e) ≡ heldTerms after n u v (j + q) l e)
-        → put_mid (j * 64) (length c - j * 64) c zs ≡ update (grid false 64 n lines (λ q l e. if within j h q then heldTerms after n u v q l e else e)) s
+        → ((q l : ℕ) → q < h → (e : Float) → g q l (f q l e) ≡ held_terms after n u v (j + q) l e)
+        → put_mid (j * 64) (length c - j * 64) c zs ≡ update (grid false 64 n lines (λ q l e. if within j h q then held_terms after n u v q l e else e)) s
     unfolding cell
     lent-twice f g ys c zs ec ey ez both =
         grid-then false 64 n lines _ _ _ s c _ (omega arith) first (lent g c zs (omega (arith, same)) ez)
@@ -132,7 +132,7 @@ module _ (after : Bool) (n lines : ℕ) (u v : List Float) where
         (λ w.
         let k = within-bounds j h q w in
         let own : j + (q - j) ≡ q = omega (arith, k) in
-        rw w (both (q - j) l (omega (arith, k)) e ∙ ap (λ (r : ℕ). heldTerms after n u v r l e) own))
+        rw w (both (q - j) l (omega (arith, k)) e ∙ ap (λ (r : ℕ). held_terms after n u v r l e) own))
         (λ w. rw w))
       where
         lent : (f : ℕ → ℕ → Float → Float) (b ys : List Float) → 4096 ≤ length b
@@ -150,10 +150,10 @@ module _ (after : Bool) (n lines : ℕ) (u v : List Float) where
 
     -- the triangle, and then the terms after it
     pub group-after : (ys c zs : List Float) → after ≡ true → c ≡ put_mid (j * 64) (length s - j * 64) s ys
-        → ys ≡ update (grid false 64 h lines (λ q l e. heldTerms after h (take (length u - j * 64) (drop (j * 64) u)) (take (length v - (j * 64 + j)) (drop (j * 64 + j) v)) q l e)) (take (length s - j * 64) (drop (j * 64) s))
+        → ys ≡ update (grid false 64 h lines (λ q l e. held_terms after h (take (length u - j * 64) (drop (j * 64) u)) (take (length v - (j * 64 + j)) (drop (j * 64 + j) v)) q l e)) (take (length s - j * 64) (drop (j * 64) s))
         → zs ≡ update (region 64 lines h (packed (n - (j + h)) (take (length u - (j + h) * 64) (drop ((j + h) * 64) u)) (take (length v - (j * 64 + (j + h))) (drop (j * 64 + (j + h)) v)))) (take (length c - j * 64) (drop (j * 64) c))
-        → put_mid (j * 64) (length c - j * 64) c zs ≡ update (grid false 64 n lines (λ q l e. if within j h q then heldTerms after n u v q l e else e)) s
-    unfolding grid packed accumulate heldTerms
+        → put_mid (j * 64) (length c - j * 64) c zs ≡ update (grid false 64 n lines (λ q l e. if within j h q then held_terms after n u v q l e else e)) s
+    unfolding grid packed accumulate held_terms
     group-after ys c zs a ec ey ez =
         lent-twice _ _ ys c zs ec ey ez
         (λ q l hq e.
@@ -164,9 +164,9 @@ module _ (after : Bool) (n lines : ℕ) (u v : List Float) where
     -- the terms before the triangle, and then the triangle
     pub group-before : (ys c zs : List Float) → after ≡ false → c ≡ put_mid (j * 64) (length s - j * 64) s ys
         → ys ≡ update (region 64 lines h (packed j u (take (length v - j * 64) (drop (j * 64) v)))) (take (length s - j * 64) (drop (j * 64) s))
-        → zs ≡ update (grid false 64 h lines (λ q l e. heldTerms after h (take (length u - j * 64) (drop (j * 64) u)) (take (length v - (j * 64 + j)) (drop (j * 64 + j) v)) q l e)) (take (length c - j * 64) (drop (j * 64) c))
-        → put_mid (j * 64) (length c - j * 64) c zs ≡ update (grid false 64 n lines (λ q l e. if within j h q then heldTerms after n u v q l e else e)) s
-    unfolding grid packed accumulate heldTerms
+        → zs ≡ update (grid false 64 h lines (λ q l e. held_terms after h (take (length u - j * 64) (drop (j * 64) u)) (take (length v - (j * 64 + j)) (drop (j * 64 + j) v)) q l e)) (take (length c - j * 64) (drop (j * 64) c))
+        → put_mid (j * 64) (length c - j * 64) c zs ≡ update (grid false 64 n lines (λ q l e. if within j h q then held_terms after n u v q l e else e)) s
+    unfolding grid packed accumulate held_terms
     group-before ys c zs a ec ey ez =
         lent-twice _ _ ys c zs ec ey ez
         (λ q l hq e.

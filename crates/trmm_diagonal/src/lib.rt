@@ -5,13 +5,13 @@ ghost use Rattle.arrays.specs.Update.{update};
 ghost use Rattle.arrays.specs.Fold.{fold};
 ghost use Rattle.floats.specs.Array.{at};
 ghost use Rattle.floats.specs.Operations.{1f};
-ghost use Rattle.definitions.specs.Storage.{withDiagonal};
+ghost use Rattle.definitions.specs.Storage.{with_diagonal};
 ghost use Rattle.definitions.specs.declared.Transpose.{Transpose as TransposeOf};
 ghost use Rattle.packing.specs.Factor.{index_of, entry_of};
-ghost use Rattle.forms.specs.Forms.{opForm};
+ghost use Rattle.forms.specs.Forms.{op_form};
 ghost use Rattle.arrays.specs.Choice.{if◌then◌else◌};
 ghost use Rattle.lines.specs.Lines.{cell, grid, within, coefficient, Room};
-ghost use Rattle.trmm_diagonal.specs.Terms.{has, heldTerms, termFrom, Pivots};
+ghost use Rattle.trmm_diagonal.specs.Terms.{has, held_terms, term_from, Pivots};
 
 use blocks::{block, pass};
 use definitions::{Diagonal, Transpose};
@@ -19,7 +19,7 @@ use definitions::{Diagonal, Transpose};
 // Entry (p, p) of op(A).
 pub fn pivot(diag: Diagonal, a: &[f64], lda: usize, p: usize) -> f64
     requires { p * lda + p < length a.now }
-    ensures { (t : TransposeOf) → result ≡ withDiagonal 1f diag (entry_of (opForm t) a.now lda) p p }
+    ensures { (t : TransposeOf) → result ≡ with_diagonal 1f diag (entry_of (op_form t) a.now lda) p p }
 {
     match diag {
         Diagonal::Unit => 1.0,
@@ -45,7 +45,7 @@ fn terms(after: bool, n: usize, j: usize) -> usize
 // The terms of n elements for these elements themselves, whose sums stand across in s, as one small triangle; u and v hold the factors.
 fn walk(after: bool, s: &mut [f64], lines: usize, n: usize, u: &[f64], v: &[f64])
     requires { (n ≤ 64) × (lines ≤ 64) × (n * 64 ≤ length s.old) × (n * 64 ≤ length u.now) × (n * 64 + n ≤ length v.now + 64) }
-    ensures { s.new ≡ update (grid false 64 n lines (λ q l e. heldTerms after n u.now v.now q l e)) s.old }
+    ensures { s.new ≡ update (grid false 64 n lines (λ q l e. held_terms after n u.now v.now q l e)) s.old }
 {
     let mut j = 0;
     while j < n {
@@ -71,7 +71,7 @@ fn group(
     v: &[f64],
 )
     requires { (n ≤ 64) × (0 < h) × (j + h ≤ n) × (lines ≤ 64) × (4096 ≤ length s.old) × (4096 ≤ length u.now) × (4096 ≤ length v.now) }
-    ensures { s.new ≡ update (grid false 64 n lines (λ q l e. if within j h q then heldTerms after n u.now v.now q l e else e)) s.old }
+    ensures { s.new ≡ update (grid false 64 n lines (λ q l e. if within j h q then held_terms after n u.now v.now q l e else e)) s.old }
 {
     let x = j * 64;
     let y = x + j;
@@ -90,7 +90,7 @@ fn group(
 // The terms of n elements for these elements themselves, group after group.
 fn groups(after: bool, s: &mut [f64], lines: usize, n: usize, u: &[f64], v: &[f64])
     requires { (n ≤ 64) × (lines ≤ 64) × (4096 ≤ length s.old) × (4096 ≤ length u.now) × (4096 ≤ length v.now) }
-    ensures { s.new ≡ update (grid false 64 n lines (λ q l e. heldTerms after n u.now v.now q l e)) s.old }
+    ensures { s.new ≡ update (grid false 64 n lines (λ q l e. held_terms after n u.now v.now q l e)) s.old }
 {
     let mut j = 0;
     while j < n {
@@ -124,8 +124,8 @@ fn triangle(
     n: usize,
     v: &mut [f64],
 )
-    requires { (n ≤ 64) × (p0 + n < 18446744073709551616) × (4096 ≤ length v.old) × ((i j : ℕ) → i < n → j < n → index_of (opForm t) lda (p0 + i) (p0 + j) < length a.now) }
-    ensures { (length v.new ≡ length v.old) × ((i p : ℕ) → i < n → p < n → has after i p ≡ true → at v.new (i * 64 + p) ≡ coefficient left (withDiagonal 1f diag (entry_of (opForm t) a.now lda)) (p0 + i) (p0 + p)) }
+    requires { (n ≤ 64) × (p0 + n < 18446744073709551616) × (4096 ≤ length v.old) × ((i j : ℕ) → i < n → j < n → index_of (op_form t) lda (p0 + i) (p0 + j) < length a.now) }
+    ensures { (length v.new ≡ length v.old) × ((i p : ℕ) → i < n → p < n → has after i p ≡ true → at v.new (i * 64 + p) ≡ coefficient left (with_diagonal 1f diag (entry_of (op_form t) a.now lda)) (p0 + i) (p0 + p)) }
 {
     lines::triangle::coefficients(left, after, false, t, a, lda, p0, n, v);
     pivots(diag, a, lda, p0, n, v);
@@ -150,8 +150,8 @@ pub fn across(
 )
     requires n_nonzero { (0 < n) × (n ≤ 64) × (p0 + n ≤ m) × (0 < lines) × (lines ≤ 64) × (4096 ≤ length s.old) }
     requires room { Room left ld m lines (length b.now) }
-    requires by_index { (i j : ℕ) → i < m → j < m → index_of (opForm t) lda i j < length a.now }
-    ensures { s.new ≡ update (grid false 64 n lines (λ q l e. fold (termFrom left after alpha (withDiagonal 1f diag (entry_of (opForm t) a.now lda)) p0 (λ k. at b.now (cell left ld (p0 + k) l)) (p0 + q)) n e)) s.old }
+    requires by_index { (i j : ℕ) → i < m → j < m → index_of (op_form t) lda i j < length a.now }
+    ensures { s.new ≡ update (grid false 64 n lines (λ q l e. fold (term_from left after alpha (with_diagonal 1f diag (entry_of (op_form t) a.now lda)) p0 (λ k. at b.now (cell left ld (p0 + k) l)) (p0 + q)) n e)) s.old }
 {
     let mut x = [0.0f64; 4096];
     let mut v = [0.0f64; 4096];
@@ -184,8 +184,8 @@ fn turned(
 )
     requires n_nonzero { (0 < n) × (n ≤ 64) × (p0 + n ≤ m) × (0 < lines) × (lines ≤ 64) × (4096 ≤ length z.old) }
     requires room { Room true ld m lines (length b.now) }
-    requires by_index { (i j : ℕ) → i < m → j < m → index_of (opForm t) lda i j < length a.now }
-    ensures { z.new ≡ update (grid true 64 n lines (λ q l e. fold (termFrom true after alpha (withDiagonal 1f diag (entry_of (opForm t) a.now lda)) p0 (λ k. at b.now (cell true ld (p0 + k) l)) (p0 + q)) n e)) z.old }
+    requires by_index { (i j : ℕ) → i < m → j < m → index_of (op_form t) lda i j < length a.now }
+    ensures { z.new ≡ update (grid true 64 n lines (λ q l e. fold (term_from true after alpha (with_diagonal 1f diag (entry_of (op_form t) a.now lda)) p0 (λ k. at b.now (cell true ld (p0 + k) l)) (p0 + q)) n e)) z.old }
 {
     let mut s = [0.0f64; 4096];
     lines::take(true, false, &mut s, z, 64, n, lines, 0, n);
@@ -214,8 +214,8 @@ pub fn diagonal(
 )
     requires n_nonzero { (0 < n) × (n ≤ 64) × (p0 + n ≤ m) × (0 < lines) × (lines ≤ 64) × (4096 ≤ length z.old) }
     requires room { Room left ld m lines (length b.now) }
-    requires by_index { (i j : ℕ) → i < m → j < m → index_of (opForm t) lda i j < length a.now }
-    ensures { z.new ≡ update (grid left 64 n lines (λ q l e. fold (termFrom left after alpha (withDiagonal 1f diag (entry_of (opForm t) a.now lda)) p0 (λ k. at b.now (cell left ld (p0 + k) l)) (p0 + q)) n e)) z.old }
+    requires by_index { (i j : ℕ) → i < m → j < m → index_of (op_form t) lda i j < length a.now }
+    ensures { z.new ≡ update (grid left 64 n lines (λ q l e. fold (term_from left after alpha (with_diagonal 1f diag (entry_of (op_form t) a.now lda)) p0 (λ k. at b.now (cell left ld (p0 + k) l)) (p0 + q)) n e)) z.old }
 {
     if left {
         turned(after, diag, alpha, t, a, lda, b, ld, m, lines, p0, n, z);

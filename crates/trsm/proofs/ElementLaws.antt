@@ -17,15 +17,15 @@ use Rattle.definitions.specs.Element.{divided}
 use Rattle.definitions.specs.declared.Diagonal.{Diagonal}
 use Rattle.definitions.specs.declared.Transpose.{Transpose}
 use Rattle.packing.specs.Factor.{Matrix, index_of, entry_of, along, turn}
-use Rattle.forms.specs.Forms.{opForm}
+use Rattle.forms.specs.Forms.{op_form}
 use Rattle.packing.proofs.FactorLaws.{turn_along, turn_below}
 use Rattle.lines.specs.Lines.{cell, within, coefficient, Room}
-use Rattle.elements.specs.Sums.{termOf, begun, finished, lineSum, Summed}
+use Rattle.elements.specs.Sums.{term_of, begun, finished, line_sum, Summed}
 use Rattle.elements.specs.declared.Start.TheVariants.{Value}
 use Rattle.elements.specs.declared.End.{End}
 use Rattle.lines.proofs.GridLaws.{grid-same}
 use Rattle.elements.proofs.StrideLaws.{term_is}
-use Rattle.trsm_diagonal.specs.Solve.{ordered, solution, sumAfter, state_of, front, solveTerm, solveEnd}
+use Rattle.trsm_diagonal.specs.Solve.{ordered, solution, sum_after, state_of, front, solve_term, solve_end}
 use Rattle.trsm_diagonal.proofs.OrderLaws.{first_one, within-turn}
 use Rattle.trsm_diagonal.proofs.StateLaws.{value-is, state-start, front-in, narrower, wider, block-ended, held}
 use Rattle.trsm_diagonal.proofs.BlockLaws.{diagonal-index}
@@ -40,20 +40,20 @@ pub terms-below : (down : Bool) (m from j : ℕ) → from ≡ turn down m 0 → 
 terms-below down m from j e hj p hp = omega (arith, index down m p e, turn_below down m p (omega arith))
 
 -- the diagonal is within A
-pub diagonal-low : (t : Transpose) (lda m len i : ℕ) → ((i j : ℕ) → i < m → j < m → index_of (opForm t) lda i j < len) → i < m → i * lda + i < len
+pub diagonal-low : (t : Transpose) (lda m len i : ℕ) → ((i j : ℕ) → i < m → j < m → index_of (op_form t) lda i j < len) → i < m → i * lda + i < len
 diagonal-low t lda m len i inside h = omega (arith, diagonal-index t lda i, inside i i h h)
 
 -- ---- the unknowns, one after the other
 
 module _ (left down : Bool) (ld m lines : ℕ) (diag : Diagonal) (t : Transpose) (a : List Float) (lda : ℕ) (pos : 0 < ld) where
   abbrev T : Matrix
-  T = entry_of (opForm t) a lda
+  T = entry_of (op_form t) a lda
 
   abbrev term : ℕ → Float → ℕ → Float → Float
-  term = solveTerm left down m T
+  term = solve_term left down m T
 
   abbrev finish : ℕ → Float → Float
-  finish = solveEnd diag down m T
+  finish = solve_end diag down m T
 
   -- none is solved
   pub elements-none : (b : List Float) → Step left down ld m lines diag T (front m 0) (λ k. front 0 0 (front m 0 k)) b b
@@ -65,7 +65,7 @@ module _ (left down : Bool) (ld m lines : ℕ) (diag : Diagonal) (t : Transpose)
       → ((left : Bool) (alpha e y : Float) → finished left alpha end e y ≡ divided diag e (at a (i * lda + i)))
       → Summed left ld m lines i alpha Value end (λ p. coefficient left T i (along down from p)) (along down from) j b c
       → Step left down ld m lines diag T (λ k. front j j (front m 0 k)) (λ k. front (j + 1) (j + 1) (front m 0 k)) b c
-  unfolding ordered solveTerm solveEnd sumAfter lineSum begun entry_of
+  unfolding ordered solve_term solve_end sum_after line_sum begun entry_of
   element-step alpha end i j from b c ea ei ef low room ends ec start k b₀ eb =
       block-ended nan term finish left down ld m lines start b₀ pos j 1 (front m 0 k) (λ q l y. sum l y) b c
       (λ q l lo up hl.
@@ -80,13 +80,13 @@ module _ (left down : Bool) (ld m lines : ℕ) (diag : Diagonal) (t : Transpose)
       w p = coefficient left T i (along down from p)
 
       sum : ℕ → Float → Float
-      sum l y = lineSum left alpha Value end w (λ p. at b (cell left ld (along down from p) l)) j y
+      sum l y = line_sum left alpha Value end w (λ p. at b (cell left ld (along down from p) l)) j y
 
       solve-term : (l p : ℕ) (e : Float) → l < lines → p < j
-          → termOf left alpha (w p) e (at b (cell left ld (along down from p) l)) ≡ term j e p (solution nan term finish (start l) p)
+          → term_of left alpha (w p) e (at b (cell left ld (along down from p) l)) ≡ term j e p (solution nan term finish (start l) p)
       solve-term l p e hl hp =
-          ap (λ (z : Float). termOf left z (w p) e (at b (cell left ld (along down from p) l))) ea
-          ∙ ap₂ (λ (v x : Float). termOf left −1f v e x)
+          ap (λ (z : Float). term_of left z (w p) e (at b (cell left ld (along down from p) l))) ea
+          ∙ ap₂ (λ (v x : Float). term_of left −1f v e x)
           (ap₂ (coefficient left T) ei (index down m p ef))
           (ap (λ (z : ℕ). at b (cell left ld z l)) (index down m p ef)
           ∙ held nan term finish left down ld m lines start b₀ j j (front m 0 k) b p l
@@ -98,7 +98,7 @@ module _ (left down : Bool) (ld m lines : ℕ) (diag : Diagonal) (t : Transpose)
           ap (sum l) (ap (λ (n : ℕ). state_of nan term finish (start l) n j) (front-in m 0 k j low) ∙ state-start nan term finish (start l) j)
           ∙ ends left alpha _ _
           ∙ ap₂ (λ (e : Float) (x : ℕ). divided diag e (at a x)) (fold_same _ _ j (start l j) (λ p hp e. solve-term l p e hl hp))
-          (sym (diagonal-index t lda i) ∙ ap (λ (x : ℕ). index_of (opForm t) lda x x) ei)
+          (sym (diagonal-index t lda i) ∙ ap (λ (x : ℕ). index_of (op_form t) lda x x) ei)
           ∙ sym (value-is nan term finish (start l) j)
 
   -- all are solved

@@ -5,18 +5,18 @@ ghost use Rattle.arrays.specs.Update.{update};
 ghost use Rattle.arrays.specs.Search as Search;
 ghost use Rattle.arrays.specs.Search.{Lowest};
 ghost use Rattle.floats.specs.Array.{at};
-ghost use Rattle.definitions.specs.Number.{isZero};
-ghost use Rattle.definitions.specs.Call.{bySide, extent};
-ghost use Rattle.definitions.specs.Element.{divided, byZero, zero_of, StripOf};
+ghost use Rattle.definitions.specs.Number.{is_zero};
+ghost use Rattle.definitions.specs.Call.{by_side, extent};
+ghost use Rattle.definitions.specs.Element.{divided, by_zero, zero_of, StripOf};
 ghost use Rattle.definitions.specs.declared.Diagonal.{Diagonal as DiagonalOf};
 ghost use Rattle.definitions.specs.declared.Routine.TheVariants.{Trsm};
 ghost use Rattle.definitions.proofs.Fits.{Fits};
 ghost use Rattle.packing.specs.Factor.{index_of, entry_of};
-ghost use Rattle.forms.specs.Forms.{opForm};
+ghost use Rattle.forms.specs.Forms.{op_form};
 ghost use Rattle.lines.specs.Lines.{cell, grid, Room};
 ghost use Rattle.elements.specs.Sums.{finished};
-ghost use Rattle.trsm_diagonal.specs.Solve.{front, zeroAmong};
-ghost use Rattle.trsm.specs.Steps.{lineValue, Step};
+ghost use Rattle.trsm_diagonal.specs.Solve.{front, zero_among};
+ghost use Rattle.trsm.specs.Steps.{line_value, Step};
 
 use blocks::pass;
 use definitions::{Call, Diagonal, Scalar, Side, Transpose};
@@ -47,8 +47,8 @@ fn update_rest(
 )
     requires n_nonzero { (0 < n) × (n ≤ 64) × (p + n ≤ m) × (0 < lines) × (lines ≤ 64) × (0 < r) × (r ≤ 64) }
     requires room { Room left ld m lines (length b.old) }
-    requires by_index { (i j : ℕ) → i < m → j < m → index_of (opForm t) lda i j < length a.now }
-    ensures { (diag : DiagonalOf) → Step left down ld m lines diag (entry_of (opForm t) a.now lda) (λ k. front (p + n) (p + n) (front m p k)) (front m (p + n)) b.old b.new }
+    requires by_index { (i j : ℕ) → i < m → j < m → index_of (op_form t) lda i j < length a.now }
+    ensures { (diag : DiagonalOf) → Step left down ld m lines diag (entry_of (op_form t) a.now lda) (λ k. front (p + n) (p + n) (front m p k)) (front m (p + n)) b.old b.new }
 {
     let mut i = p + n;
     if i == m {
@@ -85,9 +85,9 @@ fn solve_block(
 ) -> usize
     requires n_nonzero { (0 < n) × (n ≤ 64) × (p + n ≤ m) × (0 < lines) × (lines ≤ 64) }
     requires room { Room left ld m lines (length b.old) }
-    requires by_index { (i j : ℕ) → i < m → j < m → index_of (opForm t) lda i j < length a.now }
-    ensures { Step left down ld m lines diag (entry_of (opForm t) a.now lda) (front (p + n) p) (front (p + n) (p + n)) b.old b.new
-        × Lowest (zeroAmong down m diag (entry_of (opForm t) a.now lda) p (p + n)) m result }
+    requires by_index { (i j : ℕ) → i < m → j < m → index_of (op_form t) lda i j < length a.now }
+    ensures { Step left down ld m lines diag (entry_of (op_form t) a.now lda) (front (p + n) p) (front (p + n) (p + n)) b.old b.new
+        × Lowest (zero_among down m diag (entry_of (op_form t) a.now lda) p (p + n)) m result }
 {
     let x0 = trsm_diagonal::least(down, m, p, n);
     if left {
@@ -130,9 +130,9 @@ fn solve(
 ) -> usize
     requires m_nonzero { (0 < m) × (0 < lines) × (lines ≤ 64) × (0 < r) × (r ≤ 64) }
     requires room { Room left ld m lines (length b.old) }
-    requires by_index { (i j : ℕ) → i < m → j < m → index_of (opForm t) lda i j < length a.now }
-    ensures { Step left down ld m lines diag (entry_of (opForm t) a.now lda) (front m 0) (front m m) b.old b.new
-        × Lowest (λ i. byZero diag (entry_of (opForm t) a.now lda i i)) m result }
+    requires by_index { (i j : ℕ) → i < m → j < m → index_of (op_form t) lda i j < length a.now }
+    ensures { Step left down ld m lines diag (entry_of (op_form t) a.now lda) (front m 0) (front m m) b.old b.new
+        × Lowest (λ i. by_zero diag (entry_of (op_form t) a.now lda i i)) m result }
 {
     let mut zero = m;
     let mut q = 0;
@@ -160,7 +160,7 @@ fn end_of(diag: Diagonal, a: &[f64], k: usize) -> End
 // Whether that is a division by zero.
 fn ends_by_zero(diag: Diagonal, a: &[f64], k: usize) -> bool
     requires { k < length a.now }
-    ensures { result ≡ byZero diag (at a.now k) }
+    ensures { result ≡ by_zero diag (at a.now k) }
 {
     match diag {
         Diagonal::Unit => false,
@@ -184,8 +184,8 @@ fn solve_element(
 )
     requires j_lt_m { (j < m) × (0 < lines) }
     requires room { Room left ld m lines (length b.old) }
-    requires by_index { (i j : ℕ) → i < m → j < m → index_of (opForm t) lda i j < length a.now }
-    ensures { Step left down ld m lines diag (entry_of (opForm t) a.now lda) (λ k. front j j (front m 0 k)) (λ k. front (j + 1) (j + 1) (front m 0 k)) b.old b.new }
+    requires by_index { (i j : ℕ) → i < m → j < m → index_of (op_form t) lda i j < length a.now }
+    ensures { Step left down ld m lines diag (entry_of (op_form t) a.now lda) (λ k. front j j (front m 0 k)) (λ k. front (j + 1) (j + 1) (front m 0 k)) b.old b.new }
 {
     let i = factor::turn_of(down, m, j);
     let k = i * lda + i;
@@ -223,9 +223,9 @@ fn solve_elements(
 ) -> usize
     requires m_nonzero { (0 < m) × (0 < lines) }
     requires room { Room left ld m lines (length b.old) }
-    requires by_index { (i j : ℕ) → i < m → j < m → index_of (opForm t) lda i j < length a.now }
-    ensures { Step left down ld m lines diag (entry_of (opForm t) a.now lda) (front m 0) (front m m) b.old b.new
-        × Lowest (λ i. byZero diag (entry_of (opForm t) a.now lda i i)) m result }
+    requires by_index { (i j : ℕ) → i < m → j < m → index_of (op_form t) lda i j < length a.now }
+    ensures { Step left down ld m lines diag (entry_of (op_form t) a.now lda) (front m 0) (front m m) b.old b.new
+        × Lowest (λ i. by_zero diag (entry_of (op_form t) a.now lda i i)) m result }
 {
     let mut zero = m;
     let mut j = 0;
@@ -255,9 +255,9 @@ fn solve_lines(
 ) -> usize
     requires m_nonzero { (0 < m) × (0 < lines) × (lines ≤ 64) × (0 < r) × (r ≤ 64) }
     requires room { Room left ld m lines (length b.old) }
-    requires j_in_bounds { isZero alpha ≡ false → (i j : ℕ) → i < m → j < m → index_of (opForm t) lda i j < length a.now }
-    ensures { (b.new ≡ update (grid left ld m lines (λ i l _. lineValue left down m diag alpha (entry_of (opForm t) a.now lda) (λ p. at b.old (cell left ld p l)) i)) b.old)
-        × Lowest (λ i. not (isZero alpha) && byZero diag (entry_of (opForm t) a.now lda i i)) m result }
+    requires j_in_bounds { is_zero alpha ≡ false → (i j : ℕ) → i < m → j < m → index_of (op_form t) lda i j < length a.now }
+    ensures { (b.new ≡ update (grid left ld m lines (λ i l _. line_value left down m diag alpha (entry_of (op_form t) a.now lda) (λ p. at b.old (cell left ld p l)) i)) b.old)
+        × Lowest (λ i. not (is_zero alpha) && by_zero diag (entry_of (op_form t) a.now lda i i)) m result }
 {
     let rows = arrays::pick(left, m, lines);
     let cols = arrays::pick(left, lines, m);
@@ -283,9 +283,9 @@ fn report(z: usize, m: usize) -> i32
 // TRSM's strip of `lines` columns (side L) or rows (side R) from column or row `from` on: b is the part of B that starts there, and blocks are of r unknowns. It
 // hands back the lowest diagonal index at which A is zero, or -1.
 pub fn trsm_strip(call: Call, a: &[f64], b: &mut [f64], from: usize, lines: usize, r: usize) -> i32
-    requires by_index { (lenc : ℕ) × Fits Trsm call (length a.now) (bySide call.side (from * call.ldb) from + length b.old) lenc }
+    requires by_index { (lenc : ℕ) × Fits Trsm call (length a.now) (by_side call.side (from * call.ldb) from + length b.old) lenc }
     requires lines_nonzero { (0 < lines) × (lines ≤ 64) × (from + lines ≤ extent call) × (0 < r) × (r ≤ 64) }
-    ensures { ((b₀ : List Float) → StripOf call a.now b₀ from (from + lines) (bySide call.side (from * call.ldb) from) b.old b.new)
+    ensures { ((b₀ : List Float) → StripOf call a.now b₀ from (from + lines) (by_side call.side (from * call.ldb) from) b.old b.new)
         × (result ≡ zero_of Trsm call a.now) }
 {
     let side = call.side;

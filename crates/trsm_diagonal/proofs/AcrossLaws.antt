@@ -25,7 +25,7 @@ use Rattle.blocks.specs.Terms.{accumulate, packed}
 use Rattle.packing.proofs.FactorLaws.{turn_below, turn-turn}
 use Rattle.lines.specs.Lines.{cell, grid, within, Room}
 use Rattle.lines.proofs.GridLaws.{by-within, grid-same, grid-keep, grid-at, grid-lent}
-use Rattle.trsm_diagonal.specs.Solve.{first, ordered, sumAfter, solution, state_of, solving, front, solveEnd, valueFactor, packedTerm, packedValue}
+use Rattle.trsm_diagonal.specs.Solve.{first, ordered, sum_after, solution, state_of, solving, front, solve_end, value_factor, packed_term, packed_value}
 use Rattle.trsm_diagonal.proofs.OrderLaws.{turn-from, first_one, within-turn, ordered-then}
 use Rattle.trsm_diagonal.proofs.StateLaws as StateLaws
 use Rattle.trsm_diagonal.proofs.StateLaws.{front-in, front_out, value-is, state-start, state-done, narrower, rest_more, all-started, held}
@@ -33,16 +33,16 @@ use Rattle.trsm_diagonal.proofs.BlockLaws.{lent-value, lent-block}
 
 module _ (left down : Bool) (ld n lines : ℕ) (diag : Diagonal) (T : Matrix) (v s₀ u₀ : List Float) where
   abbrev term : ℕ → Float → ℕ → Float → Float
-  term = packedTerm left down n v
+  term = packed_term left down n v
 
   abbrev finish : ℕ → Float → Float
-  finish = solveEnd diag down n T
+  finish = solve_end diag down n T
 
   abbrev start : ℕ → ℕ → Float
   start l q = at s₀ (cell false ld (turn down n q) l)
 
   abbrev value : ℕ → ℕ → Float
-  value l q = packedValue left down n diag T v (λ i. at s₀ (cell false ld i l)) q
+  value l q = packed_value left down n diag T v (λ i. at s₀ (cell false ld i l)) q
 
   -- no unknown has a term
   abbrev none : ℕ → ℕ
@@ -58,7 +58,7 @@ module _ (left down : Bool) (ld n lines : ℕ) (diag : Diagonal) (T : Matrix) (v
 
   -- u has what their terms take
   abbrev pub Kept : ℕ → List Float → Type 0
-  Kept j u = u ≡ update (grid false 64 j lines (λ q l _. valueFactor left (value l q))) u₀
+  Kept j u = u ≡ update (grid false 64 j lines (λ q l _. value_factor left (value l q))) u₀
 
   module _ (some : 0 < lines) (room : Room false ld n lines (length s₀)) (few : Room false 64 n lines (length u₀)) where
     pos : 0 < ld
@@ -74,12 +74,12 @@ module _ (left down : Bool) (ld n lines : ℕ) (diag : Diagonal) (T : Matrix) (v
     pub none_kept : Kept 0 u₀
     none_kept = grid-keep false 64 0 lines _ u₀ (λ q l hq hl x. let z : ⊥ = omega arith in absurd z)
 
-    kept_at : (j q l : ℕ) (u : List Float) → j ≤ n → Kept j u → q < j → l < lines → at u (q * 64 + l) ≡ valueFactor left (value l q)
+    kept_at : (j q l : ℕ) (u : List Float) → j ≤ n → Kept j u → q < j → l < lines → at u (q * 64 + l) ≡ value_factor left (value l q)
     unfolding cell
     kept_at j q l u h kept hq hl = grid-at nan false 64 j lines _ u₀ u q l (few.0, omega arith) hq hl kept
 
     pub all-solved : (s : List Float) → Solved n s → s ≡ update (ordered false down ld n lines (λ q l _. value l q)) s₀
-    unfolding packedValue
+    unfolding packed_value
     all-solved s e = StateLaws.all-solved nan term finish false down ld n lines start s₀ pos none s e
 
     -- there is room as there was
@@ -92,7 +92,7 @@ module _ (left down : Bool) (ld n lines : ℕ) (diag : Diagonal) (T : Matrix) (v
       -- the terms of the first j for unknown q, whose element is y + r
       terms : (q r l : ℕ) (x : Float) → j ≤ n → y + r ≡ turn down n q → l < lines
           → packed j u (take (length v - y * 64) (drop (y * 64) v)) l r x ≡ fold (λ e p. term q e p (value l p)) j x
-      unfolding packed accumulate packedTerm
+      unfolding packed accumulate packed_term
       terms q r l x low er hl =
           fold_same _ _ j x
           (λ p hp e.
@@ -111,7 +111,7 @@ module _ (left down : Bool) (ld n lines : ℕ) (diag : Diagonal) (T : Matrix) (v
         next q l x = if within j 1 q then made l x else x
 
         made-is : (l : ℕ) → l < lines → made l (start l j) ≡ value l j
-        unfolding packedValue solveEnd sumAfter
+        unfolding packed_value solve_end sum_after
         made-is l hl =
             ap₂ (λ (e : Float) (k : ℕ). divided diag e (T k k)) (terms j 0 l (start l j) (omega arith) (omega (arith, ey)) hl) ey
             ∙ sym (value-is nan term finish (start l) j)
@@ -124,7 +124,7 @@ module _ (left down : Bool) (ld n lines : ℕ) (diag : Diagonal) (T : Matrix) (v
 
         pub one-solved : (ys : List Float) → ys ≡ update (below lines made) (take (length s - y * ld) (drop (y * ld) s))
             → Solved (j + 1) (put_mid (y * ld) (length s - y * ld) s ys)
-        unfolding grid cell ordered solving packedValue
+        unfolding grid cell ordered solving packed_value
         one-solved ys es =
             ordered-then false down ld n lines (λ q l _. state l (front j j none q) q) next (λ q l _. state l (front (j + 1) (j + 1) none q) q) s₀ s _ pos solved lent
             (λ q l hq hl x.
@@ -155,14 +155,14 @@ module _ (left down : Bool) (ld n lines : ℕ) (diag : Diagonal) (T : Matrix) (v
 
         -- it is copied to u
         pub one_kept : (ys us : List Float) → Solved (j + 1) ys
-            → us ≡ update (below lines (λ l _. valueFactor left (at (take (length ys - y * ld) (drop (y * ld) ys)) l))) (take (length u - j * 64) (drop (j * 64) u))
+            → us ≡ update (below lines (λ l _. value_factor left (at (take (length ys - y * ld) (drop (y * ld) ys)) l))) (take (length u - j * 64) (drop (j * 64) u))
             → Kept (j + 1) (put_mid (j * 64) (length u - j * 64) u us)
-        unfolding grid cell packedValue
+        unfolding grid cell packed_value
         one_kept ys us es eu =
-            region-column nan 64 (omega arith) lines j (λ l q _. valueFactor left (value l q)) u₀ u us few.0 (omega arith) kept
+            region-column nan 64 (omega arith) lines j (λ l q _. value_factor left (value l q)) u₀ u us few.0 (omega arith) kept
             (eu ∙ below-same _ _ _ lines
             (λ l hl x.
-            ap (valueFactor left)
+            ap (value_factor left)
             (tail_at (y * ld) ys l nan
             ∙ ap (λ (k : ℕ). at ys (k * ld + l)) ey
             ∙ held nan term finish false down ld n lines start s₀ (j + 1) (j + 1) none ys j l room low hl (omega arith) (omega arith) es)))
@@ -183,7 +183,7 @@ module _ (left down : Bool) (ld n lines : ℕ) (diag : Diagonal) (T : Matrix) (v
         sums q l x = fold (λ e p. term q e (0 + p) (value l (0 + p))) j x
 
         group-begun : Has (j + h) j summed
-        unfolding grid cell ordered packedValue
+        unfolding grid cell ordered packed_value
         group-begun =
             subst (λ (k : ℕ). Has (j + h) k summed) (zero-add j)
             (rest_more nan term finish false down ld n lines start s₀ pos 0 j j h n (λ q. q) (λ p l. value l (0 + p)) s summed (omega arith) (omega arith)
@@ -202,38 +202,38 @@ module _ (left down : Bool) (ld n lines : ℕ) (diag : Diagonal) (T : Matrix) (v
           abbrev factors : List Float
           factors = take (length v - (y * 64 + j)) (drop (y * 64 + j) v)
 
-          abbrev groupValue : ℕ → ℕ → Float
-          groupValue q l = packedValue left down h diag D factors (λ i. at (take (length summed - y * ld) (drop (y * ld) summed)) (cell false ld i l)) q
+          abbrev group_value : ℕ → ℕ → Float
+          group_value q l = packed_value left down h diag D factors (λ i. at (take (length summed - y * ld) (drop (y * ld) summed)) (cell false ld i l)) q
 
           abbrev term' : ℕ → Float → ℕ → Float → Float
-          term' = packedTerm left down h factors
+          term' = packed_term left down h factors
 
           abbrev finish' : ℕ → Float → Float
-          finish' = solveEnd diag down h D
+          finish' = solve_end diag down h D
 
           group-term : (q p : ℕ) → p < q → q < h → (e x : Float) → term (j + q) e (j + p) x ≡ term' q e p x
-          unfolding packedTerm
+          unfolding packed_term
           group-term q p hp hq e x =
-              ap (λ (a : Float). e ⊕ a ⊗ valueFactor left x)
+              ap (λ (a : Float). e ⊕ a ⊗ value_factor left x)
               (sym (tail_at (y * 64 + j) v (turn down h q * 64 + p) nan ∙ ap (at v) (omega (arith, turn-from down n j h y q low ey hq))))
 
           group-end : (q : ℕ) → q < h → (e : Float) → finish (j + q) e ≡ finish' q e
-          unfolding solveEnd
+          unfolding solve_end
           group-end q hq e =
               ap (divided diag e) (ap (λ (i : ℕ). T i i) (turn-from down n j h y q low ey hq) ∙ sym (diagonal (turn down h q) (turn_below down h q hq)))
 
           pub group-done : (ys us : List Float)
-              → ys ≡ update (ordered false down ld h lines (λ q l _. groupValue q l)) (take (length summed - y * ld) (drop (y * ld) summed))
-              → us ≡ update (grid false 64 h lines (λ q l _. valueFactor left (groupValue q l))) (take (length u - j * 64) (drop (j * 64) u))
+              → ys ≡ update (ordered false down ld h lines (λ q l _. group_value q l)) (take (length summed - y * ld) (drop (y * ld) summed))
+              → us ≡ update (grid false 64 h lines (λ q l _. value_factor left (group_value q l))) (take (length u - j * 64) (drop (j * 64) u))
               → Solved (j + h) (put_mid (y * ld) (length summed - y * ld) summed ys) × Kept (j + h) (put_mid (j * 64) (length u - j * 64) u us)
-          unfolding grid packedValue
+          unfolding grid packed_value
           group-done ys us es eu = (
             lent-block term term' finish finish' false down ld n lines j h y summed pos low ey (has_room (j + h) j summed group-begun) group-term group-end
                 start none s₀ group-begun (y * ld) refl refl ys (begins (j + h) j summed group-begun) inside es,
-            region-columns nan 64 (omega arith) lines j h (λ l q _. valueFactor left (value l q)) u₀ u us few.0 (omega arith) kept
+            region-columns nan 64 (omega arith) lines j h (λ l q _. value_factor left (value l q)) u₀ u us few.0 (omega arith) kept
                 (eu ∙ grid-same false 64 h lines _ _ (take (length u - j * 64) (drop (j * 64) u)) (omega arith)
                 (λ q l hq hl x.
-                ap (valueFactor left)
+                ap (value_factor left)
                 (lent-value term term' finish finish' false down ld n lines j h y summed pos low ey (has_room (j + h) j summed group-begun) group-term group-end
                 start none s₀ group-begun (y * ld) refl refl q l hq hl))),
           )

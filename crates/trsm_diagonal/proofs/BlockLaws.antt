@@ -20,7 +20,7 @@ use Rattle.definitions.specs.declared.Transpose.{Transpose}
 use Rattle.definitions.specs.declared.Transpose.TheVariants.{No, Yes}
 use Rattle.packing.specs.Factor.{index_of, entry_of, turn}
 use Rattle.packing.specs.declared.Form.TheVariants.{Plain}
-use Rattle.forms.specs.Forms.{opForm}
+use Rattle.forms.specs.Forms.{op_form}
 use Rattle.packing.proofs.FactorLaws.{turn_below}
 use Rattle.lines.specs.Lines.{cell, grid, within, Room}
 use Rattle.lines.proofs.GridLaws.{within_in, within-before, within-after, by-within, grid-same, grid-lent}
@@ -31,7 +31,7 @@ use Rattle.trsm_diagonal.proofs.StateLaws.{value-from, value-only, narrower, wid
 -- ---- the diagonal
 
 -- that of op(A) is A's
-pub diagonal-index : (t : Transpose) (ld i : ℕ) → index_of (opForm t) ld i i ≡ i * ld + i
+pub diagonal-index : (t : Transpose) (ld i : ℕ) → index_of (op_form t) ld i i ≡ i * ld + i
 unfolding index_of
 diagonal-index No ld i = refl
 diagonal-index Yes ld i = refl
@@ -41,13 +41,13 @@ module _ (t : Transpose) (a : List Float) (ld x0 i : ℕ) where
   abbrev from : ℕ
   from = x0 * ld + x0
 
-  place : from + (i * ld + i) ≡ index_of (opForm t) ld (x0 + i) (x0 + i)
+  place : from + (i * ld + i) ≡ index_of (op_form t) ld (x0 + i) (x0 + i)
   place = rw (diagonal-index t ld (x0 + i), add-mul x0 i ld) (omega arith)
 
-  pub diagonal-inside : index_of (opForm t) ld (x0 + i) (x0 + i) < length a → i * ld + i < length (take (length a - from) (drop from a))
+  pub diagonal-inside : index_of (op_form t) ld (x0 + i) (x0 + i) < length a → i * ld + i < length (take (length a - from) (drop from a))
   diagonal-inside h = omega (arith, place, tail-length from a)
 
-  pub diagonal-part : entry_of Plain (take (length a - from) (drop from a)) ld i i ≡ entry_of (opForm t) a ld (x0 + i) (x0 + i)
+  pub diagonal-part : entry_of Plain (take (length a - from) (drop from a)) ld i i ≡ entry_of (op_form t) a ld (x0 + i) (x0 + i)
   unfolding entry_of index_of
   diagonal-part = tail_at from a (i * ld + i) nan ∙ ap (at a) place
 

@@ -16,7 +16,7 @@ use Rattle.arrays.proofs.FoldLaws.{fold-none, fold-split, fold_same, solved-at}
 use Rattle.packing.specs.Factor.{turn}
 use Rattle.lines.specs.Lines.{cell, within, Room}
 use Rattle.lines.proofs.GridLaws.{by-within}
-use Rattle.trsm_diagonal.specs.Solve.{ordered, next, solution, sumAfter, state_of, solving, front}
+use Rattle.trsm_diagonal.specs.Solve.{ordered, next, solution, sum_after, state_of, solving, front}
 use Rattle.trsm_diagonal.proofs.OrderLaws.{ordered-then, ordered_same, ordered-same-at, ordered_at}
 
 pub front-in : (e hi : ℕ) (k : ℕ → ℕ) (q : ℕ) → q < e → front e hi k q ≡ hi
@@ -39,20 +39,20 @@ module _ {A : Type 0} (d : A) (term : ℕ → A → ℕ → A → A) (finish : �
     abbrev state : ℕ → ℕ → A
     state = state_of d term finish start
 
-    pub value-is : (q : ℕ) → value q ≡ finish q (sumAfter d term finish start q q)
-    unfolding solution next sumAfter
+    pub value-is : (q : ℕ) → value q ≡ finish q (sum_after d term finish start q q)
+    unfolding solution next sum_after
     value-is q = ap (finish q) (fold_same _ _ q (start q) (λ p b e. ap (term q e p) (solved-at d (next d term finish start) p q b)))
 
     pub state-done : (k q : ℕ) → q < k → state k q ≡ value q
     unfolding state_of
     state-done k q h = rw (lt-ltb q k h)
 
-    state-open : (k q : ℕ) → k ≤ q → state k q ≡ sumAfter d term finish start k q
+    state-open : (k q : ℕ) → k ≤ q → state k q ≡ sum_after d term finish start k q
     unfolding state_of
     state-open k q h = rw (le-ltb q k h)
 
     pub state-start : (q : ℕ) → state 0 q ≡ start q
-    unfolding sumAfter
+    unfolding sum_after
     state-start q = state-open 0 q (omega arith) ∙ fold-none _ (start q)
 
     -- the end of a sum
@@ -62,7 +62,7 @@ module _ {A : Type 0} (d : A) (term : ℕ → A → ℕ → A → A) (finish : �
     -- n terms more
     state-more : (p n q : ℕ) (x : ℕ → A) → p + n ≤ q → ((t : ℕ) → t < n → x t ≡ value (p + t))
         → fold (λ e t. term q e (p + t) (x t)) n (state p q) ≡ state (p + n) q
-    unfolding sumAfter
+    unfolding sum_after
     state-more p n q x h e =
         ap (λ (y : A). fold (λ e t. term q e (p + t) (x t)) n y) (state-open p q (omega arith))
         ∙ fold_same _ _ n _ (λ t b y. ap (term q y (p + t)) (e t b))
@@ -79,7 +79,7 @@ module _ {A : Type 0} (d : A) (term : ℕ → A → ℕ → A → A) (finish : �
 
     -- values that follow from those before them are the solution
     pub value-only : (x : ℕ → A) (n : ℕ) → ((q : ℕ) → q < n → x q ≡ finish q (fold (λ e p. term q e p (x p)) q (start q))) → (q : ℕ) → q < n → x q ≡ value q
-    unfolding sumAfter
+    unfolding sum_after
     value-only x zero h q hq = let z : ⊥ = omega arith in absurd z
     value-only x (suc n) h q hq =
         h q hq

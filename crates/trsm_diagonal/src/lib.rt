@@ -5,13 +5,13 @@ ghost use Rattle.arrays.specs.Update.{update, below};
 ghost use Rattle.arrays.specs.Search as Search;
 ghost use Rattle.arrays.specs.Search.{Lowest};
 ghost use Rattle.floats.specs.Array.{at};
-ghost use Rattle.definitions.specs.Element.{divided, byZero};
+ghost use Rattle.definitions.specs.Element.{divided, by_zero};
 ghost use Rattle.packing.specs.Factor.{index_of, entry_of, turn};
 ghost use Rattle.packing.specs.declared.Form.TheVariants.{Plain};
 ghost use Rattle.blocks.specs.Terms.{packed};
-ghost use Rattle.forms.specs.Forms.{opForm};
+ghost use Rattle.forms.specs.Forms.{op_form};
 ghost use Rattle.lines.specs.Lines.{cell, grid, coefficient, Room};
-ghost use Rattle.trsm_diagonal.specs.Solve.{first, ordered, valueFactor, matrixFactor, blockValue, packedValue};
+ghost use Rattle.trsm_diagonal.specs.Solve.{first, ordered, value_factor, matrix_factor, block_value, packed_value};
 
 use blocks::{block, pass};
 use definitions::{Diagonal, Transpose};
@@ -37,8 +37,8 @@ fn matrix_factors(
     n: usize,
     v: &mut [f64],
 )
-    requires { (n ≤ 64) × (x0 + n < 18446744073709551616) × (4096 ≤ length v.old) × ((i j : ℕ) → i < n → j < n → index_of (opForm t) lda (x0 + i) (x0 + j) < length a.now) }
-    ensures { (q s : ℕ) → s < q → q < n → at v.new (turn down n q * 64 + s) ≡ matrixFactor left (coefficient left (entry_of (opForm t) a.now lda) (x0 + turn down n q) (x0 + turn down n s)) }
+    requires { (n ≤ 64) × (x0 + n < 18446744073709551616) × (4096 ≤ length v.old) × ((i j : ℕ) → i < n → j < n → index_of (op_form t) lda (x0 + i) (x0 + j) < length a.now) }
+    ensures { (q s : ℕ) → s < q → q < n → at v.new (turn down n q * 64 + s) ≡ matrix_factor left (coefficient left (entry_of (op_form t) a.now lda) (x0 + turn down n q) (x0 + turn down n s)) }
 {
     triangle::coefficients(left, down, down, t, a, lda, x0, n, v);
     if left {
@@ -67,7 +67,7 @@ fn solve_unknown(
 ) -> bool
     requires { (lines ≤ length s.old) × (lines ≤ 64) × (j * 64 + lines ≤ length u.now + 64) × (j ≤ length v.now) × (k < length a.now) }
     ensures { (s.new ≡ update (below lines (λ l e. divided diag (packed j u.now v.now l 0 e) (at a.now k))) s.old)
-        × (result ≡ byZero diag (at a.now k)) }
+        × (result ≡ by_zero diag (at a.now k)) }
 {
     match diag {
         Diagonal::Unit => {
@@ -85,7 +85,7 @@ fn solve_unknown(
 // The values of an unknown as factors of its terms, times -1.0 for side L.
 fn value_factors(left: bool, u: &mut [f64], lines: usize, s: &[f64])
     requires { (lines ≤ length u.old) × (lines ≤ length s.now) }
-    ensures { u.new ≡ update (below lines (λ l _. valueFactor left (at s.now l))) u.old }
+    ensures { u.new ≡ update (below lines (λ l _. value_factor left (at s.now l))) u.old }
 {
     runs::copy(u, lines, s);
     if left {
@@ -110,9 +110,9 @@ fn solve_unknowns(
 ) -> usize
     requires n_bound { (n ≤ 64) × (0 < lines) × (lines ≤ 64) × (n * 64 ≤ length u.old) × (n * 64 + n ≤ length v.now + 64) × ((i : ℕ) → i < n → i * lda + i < length a.now) }
     requires room { Room false ld n lines (length s.old) }
-    ensures { (s.new ≡ update (ordered false down ld n lines (λ q l _. packedValue left down n diag (entry_of Plain a.now lda) v.now (λ i. at s.old (cell false ld i l)) q)) s.old)
-        × (u.new ≡ update (grid false 64 n lines (λ q l _. valueFactor left (packedValue left down n diag (entry_of Plain a.now lda) v.now (λ i. at s.old (cell false ld i l)) q))) u.old)
-        × Lowest (λ i. byZero diag (entry_of Plain a.now lda i i)) n result }
+    ensures { (s.new ≡ update (ordered false down ld n lines (λ q l _. packed_value left down n diag (entry_of Plain a.now lda) v.now (λ i. at s.old (cell false ld i l)) q)) s.old)
+        × (u.new ≡ update (grid false 64 n lines (λ q l _. value_factor left (packed_value left down n diag (entry_of Plain a.now lda) v.now (λ i. at s.old (cell false ld i l)) q))) u.old)
+        × Lowest (λ i. by_zero diag (entry_of Plain a.now lda i i)) n result }
 {
     let mut zero = n;
     let mut j = 0;
@@ -147,8 +147,8 @@ fn solve_groups(
 ) -> usize
     requires n_bound { (n ≤ 64) × (0 < lines) × (lines ≤ 64) × (4096 ≤ length u.old) × (4096 ≤ length v.now) × ((i : ℕ) → i < n → i * lda + i < length a.now) }
     requires room { Room false ld n lines (length s.old) }
-    ensures { (s.new ≡ update (ordered false down ld n lines (λ q l _. packedValue left down n diag (entry_of Plain a.now lda) v.now (λ i. at s.old (cell false ld i l)) q)) s.old)
-        × Lowest (λ i. byZero diag (entry_of Plain a.now lda i i)) n result }
+    ensures { (s.new ≡ update (ordered false down ld n lines (λ q l _. packed_value left down n diag (entry_of Plain a.now lda) v.now (λ i. at s.old (cell false ld i l)) q)) s.old)
+        × Lowest (λ i. by_zero diag (entry_of Plain a.now lda i i)) n result }
 {
     let mut zero = n;
     let mut j = 0;
@@ -194,10 +194,10 @@ pub fn solve_across(
     x0: usize,
     n: usize,
 ) -> usize
-    requires n_nonzero { (0 < n) × (n ≤ 64) × (0 < lines) × (lines ≤ 64) × (x0 + n < 18446744073709551616) × ((i j : ℕ) → i < n → j < n → index_of (opForm t) lda (x0 + i) (x0 + j) < length a.now) }
+    requires n_nonzero { (0 < n) × (n ≤ 64) × (0 < lines) × (lines ≤ 64) × (x0 + n < 18446744073709551616) × ((i j : ℕ) → i < n → j < n → index_of (op_form t) lda (x0 + i) (x0 + j) < length a.now) }
     requires room { Room false ld n lines (length s.old) }
-    ensures { (s.new ≡ update (ordered false down ld n lines (λ q l _. blockValue left down n diag (λ i j. entry_of (opForm t) a.now lda (x0 + i) (x0 + j)) (λ i. at s.old (cell false ld i l)) q)) s.old)
-        × Lowest (λ i. byZero diag (entry_of (opForm t) a.now lda (x0 + i) (x0 + i))) n result }
+    ensures { (s.new ≡ update (ordered false down ld n lines (λ q l _. block_value left down n diag (λ i j. entry_of (op_form t) a.now lda (x0 + i) (x0 + j)) (λ i. at s.old (cell false ld i l)) q)) s.old)
+        × Lowest (λ i. by_zero diag (entry_of (op_form t) a.now lda (x0 + i) (x0 + i))) n result }
 {
     let mut u = [0.0f64; 4096];
     let mut v = [0.0f64; 4096];

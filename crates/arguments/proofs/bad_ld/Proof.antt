@@ -8,7 +8,7 @@ use lib.Dec.{ltb}
 use borrow.Author.Tests.{ltb-true, ltb-false, lt-ltb, le-ltb}
 use mir.Syntax.{w32}
 use mir.ValLaws.{to_z-of_z}
-use Rattle.definitions.specs.Check.{nat, badLd}
+use Rattle.definitions.specs.Check.{nat, bad_ld}
 use Rattle.arguments.proofs.bad_ld.Statement.{statement}
 use Rattle.arguments.proofs.bad_ld.Tie as tie
 
@@ -21,7 +21,7 @@ below-larger n a b = go (ltb n a) (ltb n b) refl refl
     go false false e f = sym (le-ltb n (max a b) (max-le (ltb-false n a e) (ltb-false n b f)))
 
 returns : tie.Need-returns
-unfolding badLd
+unfolding bad_ld
 returns c =
     let call = c.before.before in
     below-larger c.before.size.result 1 call.args.s.rows

@@ -1,6 +1,6 @@
 -- `call_of` is the call that the arguments make, field by field.
 -- Assumes nothing.
-use Rattle.definitions.specs.Check.{nat, side_of, uploOf, transOf, diagOf, call_of}
+use Rattle.definitions.specs.Check.{nat, side_of, uplo_of, trans_of, diag_of, call_of}
 use Rattle.arguments.proofs.Signed.{same}
 use Rattle.arguments.proofs.call_of.Statement.{statement}
 use Rattle.arguments.proofs.call_of.Tie as tie
@@ -12,10 +12,10 @@ returns c =
     let t = c.before.before.before.before.before.before.before.before.before.before.before.before.before.before.before.before.before.before.before.before.before.before.struct_told.given in
     simp (
       same side_of g.side t.1.0.1 c.before.before.before.before.before.before.before.before.before.before.before.before.before.before.before.before.before.before.before.side-of.ensures,
-      same uploOf g.uplo t.1.1.0.1 c.before.before.before.before.before.before.before.before.before.before.before.before.before.before.before.before.before.uplo-of.ensures,
-      same transOf g.transa t.1.1.1.0.1 c.before.before.before.before.before.before.before.before.before.before.before.before.before.before.before.trans-of.ensures,
-      same transOf g.transb t.1.1.1.1.0.1 c.before.before.before.before.before.before.before.before.before.before.before.before.before.trans-of2.ensures,
-      same diagOf g.diag t.1.1.1.1.1.0.1 c.before.before.before.before.before.before.before.before.before.before.before.diag-of.ensures,
+      same uplo_of g.uplo t.1.1.0.1 c.before.before.before.before.before.before.before.before.before.before.before.before.before.before.before.before.before.uplo-of.ensures,
+      same trans_of g.transa t.1.1.1.0.1 c.before.before.before.before.before.before.before.before.before.before.before.before.before.before.before.trans-of.ensures,
+      same trans_of g.transb t.1.1.1.1.0.1 c.before.before.before.before.before.before.before.before.before.before.before.before.before.trans-of2.ensures,
+      same diag_of g.diag t.1.1.1.1.1.0.1 c.before.before.before.before.before.before.before.before.before.before.before.diag-of.ensures,
       c.before.before.before.before.before.before.before.before.rows_of_lem.ensures,
       same nat g.m t.1.1.1.1.1.1.0.1 c.before.before.before.before.before.before.before.before.before.size2.ensures,
       same nat g.n t.1.1.1.1.1.1.1.0.1 c.before.before.before.before.before.before.before.before.before.before.before.before.before.before.before.before.before.before.before.before.before.size.ensures,

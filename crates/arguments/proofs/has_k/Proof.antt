@@ -1,12 +1,12 @@
 -- `has_k` by the routine.
 -- Assumes nothing.
-use Rattle.definitions.specs.Call.{hasK}
+use Rattle.definitions.specs.Call.{has_k}
 use borrow.Author.Rules.{rules}
 use Rattle.arguments.proofs.has_k.Statement.{statement}
 use Rattle.arguments.proofs.has_k.Tie as tie
 
 pub has-k-spec : {M : Type 1} → statement M
-unfolding hasK
+unfolding has_k
 has-k-spec =
     tie.close
     (tie.spec

@@ -1,12 +1,12 @@
 -- `has_m` by the routine.
 -- Assumes nothing.
-use Rattle.definitions.specs.Call.{hasM}
+use Rattle.definitions.specs.Call.{has_m}
 use borrow.Author.Rules.{rules}
 use Rattle.arguments.proofs.has_m.Statement.{statement}
 use Rattle.arguments.proofs.has_m.Tie as tie
 
 pub has-m-spec : {M : Type 1} → statement M
-unfolding hasM
+unfolding has_m
 has-m-spec =
     tie.close
     (tie.spec

@@ -1,12 +1,12 @@
 -- `in_place` by the routine.
 -- Assumes nothing.
-use Rattle.definitions.specs.Call.{inPlace}
+use Rattle.definitions.specs.Call.{in_place}
 use borrow.Author.Rules.{rules}
 use Rattle.arguments.proofs.in_place.Statement.{statement}
 use Rattle.arguments.proofs.in_place.Tie as tie
 
 pub in-place-spec : {M : Type 1} → statement M
-unfolding inPlace
+unfolding in_place
 in-place-spec =
     tie.close
     (tie.spec

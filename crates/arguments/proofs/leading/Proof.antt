@@ -1,6 +1,6 @@
 -- The tests of the leading dimensions, in turn.
 -- Assumes nothing.
-use Rattle.definitions.specs.Check.{badLd, badWith, bad}
+use Rattle.definitions.specs.Check.{bad_ld, bad_with, bad}
 use Rattle.definitions.proofs.CheckLaws.{column}
 use Rattle.arguments.specs.Tests.{leading, tests}
 use Rattle.arguments.proofs.Signed.{same}
@@ -9,7 +9,7 @@ use Rattle.arguments.proofs.leading.Statement.{statement}
 use Rattle.arguments.proofs.leading.Tie as tie
 
 returns : tie.Need-returns
-unfolding tests leading column bad badWith
+unfolding tests leading column bad bad_with
 returns c =
     let p = c.before.before.before.before.before.before.before.before.before.args in
     let q = c.before.before.before.before.before.before.before.before.before.requires in
@@ -19,9 +19,9 @@ returns c =
       c.first3.ensures,
       c.before.before.before.first2.ensures,
       c.before.before.before.before.before.before.first.ensures,
-      same (λ z. badLd z p.a) g.lda t.1.1.1.1.1.1.1.1.1.1.1.0.1 c.before.before.before.before.before.before.before.bad-ld.ensures,
-      same (λ z. badLd z p.b) g.ldb t.1.1.1.1.1.1.1.1.1.1.1.1.0.1 c.before.before.before.before.bad-ld2.ensures,
-      same (λ z. badLd z p.c) g.ldc t.1.1.1.1.1.1.1.1.1.1.1.1.1.0.1 c.before.bad-ld3.ensures,
+      same (λ z. bad_ld z p.a) g.lda t.1.1.1.1.1.1.1.1.1.1.1.0.1 c.before.before.before.before.before.before.before.bad-ld.ensures,
+      same (λ z. bad_ld z p.b) g.ldb t.1.1.1.1.1.1.1.1.1.1.1.1.0.1 c.before.before.before.before.bad-ld2.ensures,
+      same (λ z. bad_ld z p.c) g.ldc t.1.1.1.1.1.1.1.1.1.1.1.1.1.0.1 c.before.bad-ld3.ensures,
       q.is-a,
       q.is_b,
       q.is_c,

@@ -2,16 +2,16 @@
 -- Assumes nothing.
 use mathlib.Core.Path.{◌≡◌, sym, ◌∙◌}
 use mathlib.Core.Bool.{◌||◌}
-use Rattle.definitions.specs.Check.{badWidth}
+use Rattle.definitions.specs.Check.{bad_width}
 use Rattle.arguments.proofs.Signed.{same}
 use Rattle.arguments.proofs.Refusals.{refusal-width, refusal_is}
 use Rattle.arguments.proofs.refusal.Statement.{statement}
 use Rattle.arguments.proofs.refusal.Tie as tie
 
-widths : (c : tie.After-bad-width2) → (c.before.bad-width.result || c.bad-width2.result) ≡ (badWidth c.before.before.args.w || badWidth c.before.before.args.r)
+widths : (c : tie.After-bad-width2) → (c.before.bad-width.result || c.bad-width2.result) ≡ (bad_width c.before.before.args.w || bad_width c.before.before.args.r)
 widths c =
     let s = c.before.before in
-    λ i. same badWidth s.args.w s.ranges.w.sfits c.before.bad-width.ensures i || same badWidth s.args.r s.ranges.r.sfits c.bad-width2.ensures i
+    λ i. same bad_width s.args.w s.ranges.w.sfits c.before.bad-width.ensures i || same bad_width s.args.r s.ranges.r.sfits c.bad-width2.ensures i
 
 returns : tie.Need-returns
 returns c = refusal-width c.before.before.before.args.w c.before.before.before.args.r c.before.before.before.args.g (sym (widths c.before) ∙ c.if1.true)

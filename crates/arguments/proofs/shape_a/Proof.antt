@@ -1,12 +1,12 @@
 -- The shape of A, by the routine.
 -- Assumes nothing.
-use Rattle.definitions.specs.Call.{shapeA}
+use Rattle.definitions.specs.Call.{shape_a}
 use borrow.Author.Rules.{rules}
 use Rattle.arguments.proofs.shape_a.Statement.{statement}
 use Rattle.arguments.proofs.shape_a.Tie as tie
 
 pub shape-a-spec : {M : Type 1} → statement M
-unfolding shapeA
+unfolding shape_a
 shape-a-spec =
     tie.close
     (tie.spec

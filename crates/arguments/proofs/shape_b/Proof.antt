@@ -1,12 +1,12 @@
 -- The shape of B, by the routine.
 -- Assumes nothing.
-use Rattle.definitions.specs.Call.{shapeB}
+use Rattle.definitions.specs.Call.{shape_b}
 use borrow.Author.Rules.{rules}
 use Rattle.arguments.proofs.shape_b.Statement.{statement}
 use Rattle.arguments.proofs.shape_b.Tie as tie
 
 pub shape-b-spec : {M : Type 1} → statement M
-unfolding shapeB
+unfolding shape_b
 shape-b-spec =
     tie.close
     (tie.spec

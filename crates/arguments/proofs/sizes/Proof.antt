@@ -1,6 +1,6 @@
 -- The tests of the sizes, in turn.
 -- Assumes nothing.
-use Rattle.definitions.specs.Check.{negative, badWith, bad}
+use Rattle.definitions.specs.Check.{negative, bad_with, bad}
 use Rattle.definitions.proofs.CheckLaws.{column}
 use Rattle.arguments.specs.Tests.{sizes, tests}
 use Rattle.arguments.proofs.Signed.{same}
@@ -9,7 +9,7 @@ use Rattle.arguments.proofs.sizes.Statement.{statement}
 use Rattle.arguments.proofs.sizes.Tie as tie
 
 returns : tie.Need-returns
-unfolding tests sizes column bad badWith
+unfolding tests sizes column bad bad_with
 returns c =
     let g = c.before.before.before.before.before.before.before.before.before.args.g in
     let t = c.before.before.before.before.before.before.before.before.struct_told.given in

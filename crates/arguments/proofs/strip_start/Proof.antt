@@ -3,14 +3,14 @@
 use Prim.Native.Nat.{◌*◌}
 use mathlib.Core.Path.{◌≡◌, sym, ◌∙◌}
 use native.Mathlib.Omega.{arith}
-use Rattle.definitions.specs.Call.{ldOutput}
-use Rattle.arguments.specs.Strip.{stripStart}
+use Rattle.definitions.specs.Call.{ld_output}
+use Rattle.arguments.specs.Strip.{strip_start}
 use borrow.Author.Rules.{rules}
 use Rattle.arguments.proofs.strip_start.Statement.{statement}
 use Rattle.arguments.proofs.strip_start.Tie as tie
 
-by-columns : (c : tie.After-ld-output) → c.before.before.before.args.from * c.ld-output.result ≡ stripStart c.before.before.before.args.c c.before.before.before.args.from
-unfolding ldOutput
+by-columns : (c : tie.After-ld-output) → c.before.before.before.args.from * c.ld-output.result ≡ strip_start c.before.before.before.args.c c.before.before.before.args.from
+unfolding ld_output
 by-columns c = simp (sym c.before.before.cuts-rows.ensures ∙ c.before.if1.false, c.ld-output.ensures)
 
 returns : tie.Need-returns

@@ -5,9 +5,9 @@ use mathlib.Core.Path.{◌≡◌, refl, ap, ◌∙◌}
 use lib.ListN.{length}
 use mir.Syntax.{w32}
 use mir.ValLaws.{to_z-of_z}
-use Rattle.definitions.specs.Call.{inPlace}
+use Rattle.definitions.specs.Call.{in_place}
 use Rattle.definitions.specs.Check.{width, checked}
-use Rattle.definitions.specs.Direct.{gemmArgs, gemm}
+use Rattle.definitions.specs.Direct.{gemm_args, gemm}
 use Rattle.definitions.specs.declared.Args.{Args}
 use Rattle.blas.proofs.Answers.{small, goes_on, is-done}
 use borrow.Author.Rules.{rules}
@@ -17,7 +17,7 @@ use Rattle.blas.proofs.gemm.Tie as tie
 abbrev given : tie.Start → Args
 given s =
     let g = s.args in
-    gemmArgs g.transa g.transb g.m g.n g.k g.alpha (length g.a.now) g.lda (length g.b.now) g.ldb g.beta (length g.c.now) g.ldc
+    gemm_args g.transa g.transb g.m g.n g.k g.alpha (length g.a.now) g.lda (length g.b.now) g.ldb g.beta (length g.c.now) g.ldc
 
 -- the answer is the check's of the arguments as they were given
 answer : (c : tie.After-check) → c.check.result ≡ checked c.before.before.before.before.before.before.args.w c.before.before.before.before.before.before.args.r (given c.before.before.before.before.before.before)
@@ -56,7 +56,7 @@ width-requires-2 : tie.Need-width-requires-2
 width-requires-2 c κs = search rules
 
 answered-requires : tie.Need-answered-requires
-unfolding inPlace
+unfolding in_place
 answered-requires c κs =
     let e = answer c.before.before.before in (
       small c.before.before.before.before.before.before.before.before.before.args.w c.before.before.before.before.before.before.before.before.before.args.r (given c.before.before.before.before.before.before.before.before.before) _ e,

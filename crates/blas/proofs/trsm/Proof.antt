@@ -5,9 +5,9 @@ use mathlib.Core.Path.{◌≡◌, refl, ap, ◌∙◌}
 use lib.ListN.{length}
 use mir.Syntax.{w32}
 use mir.ValLaws.{to_z-of_z}
-use Rattle.definitions.specs.Call.{inPlace}
+use Rattle.definitions.specs.Call.{in_place}
 use Rattle.definitions.specs.Check.{width, checked}
-use Rattle.definitions.specs.Direct.{triangularArgs, trsm}
+use Rattle.definitions.specs.Direct.{triangular_args, trsm}
 use Rattle.definitions.specs.declared.Routine.TheVariants.{Trsm}
 use Rattle.definitions.specs.declared.Args.{Args}
 use Rattle.blas.proofs.Answers.{small, goes_on, is-solved}
@@ -18,7 +18,7 @@ use Rattle.blas.proofs.trsm.Tie as tie
 abbrev given : tie.Start → Args
 given s =
     let g = s.args in
-    triangularArgs Trsm g.side g.uplo g.transa g.diag g.m g.n g.alpha (length g.a.now) g.lda (length g.b.now) g.ldb
+    triangular_args Trsm g.side g.uplo g.transa g.diag g.m g.n g.alpha (length g.a.now) g.lda (length g.b.now) g.ldb
 
 -- the answer is the check's of the arguments as they were given
 answer : (c : tie.After-check) → c.check.result ≡ checked c.before.before.before.before.args.w c.before.before.before.before.args.r (given c.before.before.before.before)
@@ -56,7 +56,7 @@ slice-aggregate-answered : tie.Need-slice-aggregate-answered
 slice-aggregate-answered c = search rules
 
 answered-requires : tie.Need-answered-requires
-unfolding inPlace
+unfolding in_place
 answered-requires c κs =
     let e = answer c.before.before.before.before in (
       small c.before.before.before.before.before.before.before.before.args.w c.before.before.before.before.before.before.before.before.args.r (given c.before.before.before.before.before.before.before.before) _ e,

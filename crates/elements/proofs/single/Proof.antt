@@ -8,7 +8,7 @@ use Rattle.arrays.proofs.FoldLaws.{fold-none}
 use Rattle.floats.specs.Array.{at}
 use Rattle.packing.specs.Factor.{along}
 use Rattle.packing.proofs.FactorLaws.{fewer}
-use Rattle.elements.specs.Sums.{termOf}
+use Rattle.elements.specs.Sums.{term_of}
 use Rattle.elements.proofs.SumLaws.{strides-inside, term-more, no_lines, line-more}
 use borrow.Author.Rules.{rules}
 use native.Mathlib.Omega.{arith}
@@ -17,7 +17,7 @@ use Rattle.elements.proofs.single.Tie as tie
 
 abbrev invariant-loop : tie.invariant-loop
 invariant-loop left alpha b ld m i end a sa down from count step x bx e₀ k₀ e k = (k ≤ count)
-    × (e ≡ fold (λ e k. termOf left alpha (at a (along down from k * sa)) e (at b (along down from k * step))) k e₀)
+    × (e ≡ fold (λ e k. term_of left alpha (at a (along down from k * sa)) e (at b (along down from k * step))) k e₀)
 
 abbrev decreases-loop : tie.decreases-loop
 decreases-loop left alpha b ld m i end a sa down from count step x bx e₀ k₀ e k = count - k

@@ -8,7 +8,7 @@ use Rattle.arrays.proofs.FoldLaws.{fold-none}
 use Rattle.floats.specs.Array.{at}
 use Rattle.packing.specs.Factor.{along}
 use Rattle.packing.proofs.FactorLaws.{fewer}
-use Rattle.elements.specs.Sums.{termOf}
+use Rattle.elements.specs.Sums.{term_of}
 use Rattle.elements.proofs.SumLaws.{term-more}
 use borrow.Author.Rules.{rules}
 use native.Mathlib.Omega.{arith}
@@ -17,10 +17,10 @@ use Rattle.elements.proofs.terms.Tie as tie
 
 abbrev invariant-loop : tie.invariant-loop
 invariant-loop left alpha b across step a sa down from count e₀ f₀ g₀ h₀ k₀ e f g h k = (k ≤ count)
-    × (e ≡ fold (λ e k. termOf left alpha (at a (along down from k * sa)) e (at b (along down from k * step))) k e₀)
-    × (f ≡ fold (λ e k. termOf left alpha (at a (along down from k * sa)) e (at b (along down from k * step + across))) k f₀)
-    × (g ≡ fold (λ e k. termOf left alpha (at a (along down from k * sa)) e (at b (along down from k * step + 2 * across))) k g₀)
-    × (h ≡ fold (λ e k. termOf left alpha (at a (along down from k * sa)) e (at b (along down from k * step + 3 * across))) k h₀)
+    × (e ≡ fold (λ e k. term_of left alpha (at a (along down from k * sa)) e (at b (along down from k * step))) k e₀)
+    × (f ≡ fold (λ e k. term_of left alpha (at a (along down from k * sa)) e (at b (along down from k * step + across))) k f₀)
+    × (g ≡ fold (λ e k. term_of left alpha (at a (along down from k * sa)) e (at b (along down from k * step + 2 * across))) k g₀)
+    × (h ≡ fold (λ e k. term_of left alpha (at a (along down from k * sa)) e (at b (along down from k * step + 3 * across))) k h₀)
 
 abbrev decreases-loop : tie.decreases-loop
 decreases-loop left alpha b across step a sa down from count e₀ f₀ g₀ h₀ k₀ e f g h k = count - k

@@ -1,7 +1,7 @@
 -- `gemm::gemm_strip` makes the strip that GEMM's definition gives.
 -- Assumes nothing.
 use mathlib.Core.Path.{refl}
-use Rattle.definitions.specs.Call.{inPlace, inTriangle, shapeA, shapeB, shape_c}
+use Rattle.definitions.specs.Call.{in_place, in_triangle, shape_a, shape_b, shape_c}
 use Rattle.definitions.specs.declared.Routine.TheVariants.{Gemm}
 use Rattle.forms.proofs.Rooms.{op-inside, part_room, some-term}
 use Rattle.gemm.proofs.StripLaws.{strip-is}
@@ -33,7 +33,7 @@ cast-ldc : tie.Need-overflow-cast-ldc
 cast-ldc c = omega (arith, c.struct-known5.given)
 
 accumulate-requires : tie.Need-accumulate-requires
-unfolding shapeA shapeB shape_c
+unfolding shape_a shape_b shape_c
 accumulate-requires c κs =
     let g = c.before.before.before.before.before.before.before.before.before.before.before.args.call in
     let f = c.before.before.before.before.before.before.before.before.before.before.before.requires.0 in
@@ -49,7 +49,7 @@ same_length : tie.Need-same-length
 same_length c = search rules
 
 returns : tie.Need-returns
-unfolding shape_c inPlace inTriangle
+unfolding shape_c in_place in_triangle
 returns c =
     let g = c.before.before.before.before.before.before.before.before.before.before.before.before.before.before.args.call in
     let f = c.before.before.before.before.before.before.before.before.before.before.before.before.before.before.requires.0 in

@@ -2,7 +2,7 @@
 -- Assumes nothing.
 use mathlib.Core.Path.{◌≡◌, refl, ap}
 use native.Mathlib.Omega.{arith}
-use Rattle.definitions.specs.Call.{bySide, hasK, inPlace, inTriangle, order, shapeA, shapeB, shape_c}
+use Rattle.definitions.specs.Call.{by_side, has_k, in_place, in_triangle, order, shape_a, shape_b, shape_c}
 use Rattle.definitions.specs.declared.Routine.TheVariants.{Symm}
 use Rattle.definitions.specs.declared.Side.{Side}
 use Rattle.forms.proofs.Rooms.{mirrored-inside, plain-inside, part_room, some-factor}
@@ -34,16 +34,16 @@ enum_told : tie.Need-enum-told
 enum_told c = search rules
 
 accumulate-requires : tie.Need-accumulate-requires
-unfolding shapeA shapeB shape_c order bySide hasK
+unfolding shape_a shape_b shape_c order by_side has_k
 accumulate-requires c κs =
     let g = c.before.before.before.before.before.before.before.before.before.before.before.before.args.call in
     let f = c.before.before.before.before.before.before.before.before.before.before.before.before.requires.0 in
     let b = c.before.before.before.before.before.before.before.before.before.before.before.before.requires.1 in
-    let o : order g ≡ g.m = ap (λ (s : Side). bySide s g.m g.n) c.before.enum_told.given.1 in (
+    let o : order g ≡ g.m = ap (λ (s : Side). by_side s g.m g.n) c.before.enum_told.given.1 in (
       (f.some-rows, f.ld-c, part_room _ _ _ _ _ _ f.room-c f.some-rows (omega (arith, b)) (omega (arith, b)), omega (arith, b), omega (arith, b), omega (arith, b), omega (arith, b), omega (arith, b, c.before.before.before.before.before.before.before.struct_known.given)),
       (
-        (λ z i l hi hl. rw c.before.before.before.before.before.before.before.before.mirrored-form.ensures (mirrored-inside g.uplo _ (order g) _ (f.room-a (some-factor g (ap hasK f.routine-is) z)) i l (omega (arith, o)) (omega (arith, o)))),
-        (λ z l j hl hj. plain-inside _ _ _ _ (f.room-b (some-factor g (ap hasK f.routine-is) z)) l _ hl (omega (arith, b))),
+        (λ z i l hi hl. rw c.before.before.before.before.before.before.before.before.mirrored-form.ensures (mirrored-inside g.uplo _ (order g) _ (f.room-a (some-factor g (ap has_k f.routine-is) z)) i l (omega (arith, o)) (omega (arith, o)))),
+        (λ z l j hl hj. plain-inside _ _ _ _ (f.room-b (some-factor g (ap has_k f.routine-is) z)) l _ hl (omega (arith, b))),
       ),
     )
 
@@ -51,16 +51,16 @@ enum-told-2 : tie.Need-enum-told-2
 enum-told-2 c = search rules
 
 accumulate-requires-2 : tie.Need-accumulate-requires-2
-unfolding shapeA shapeB shape_c order bySide hasK
+unfolding shape_a shape_b shape_c order by_side has_k
 accumulate-requires-2 c κs =
     let g = c.before.before.before.before.before.before.before.before.before.before.before.before.args.call in
     let f = c.before.before.before.before.before.before.before.before.before.before.before.before.requires.0 in
     let b = c.before.before.before.before.before.before.before.before.before.before.before.before.requires.1 in
-    let o : order g ≡ g.n = ap (λ (s : Side). bySide s g.m g.n) c.before.enum-told2.given.1 in (
+    let o : order g ≡ g.n = ap (λ (s : Side). by_side s g.m g.n) c.before.enum-told2.given.1 in (
       (f.some-rows, f.ld-c, part_room _ _ _ _ _ _ f.room-c f.some-rows (omega (arith, b)) (omega (arith, b)), omega (arith, b), omega (arith, b), omega (arith, b), omega (arith, b), omega (arith, b, c.before.before.before.before.before.before.before.struct_known.given)),
       (
-        (λ z i l hi hl. plain-inside _ _ _ _ (f.room-b (some-factor g (ap hasK f.routine-is) z)) i l hi hl),
-        (λ z l j hl hj. rw c.before.before.before.before.before.before.before.before.mirrored-form.ensures (mirrored-inside g.uplo _ (order g) _ (f.room-a (some-factor g (ap hasK f.routine-is) z)) l _ (omega (arith, o)) (omega (arith, b, o)))),
+        (λ z i l hi hl. plain-inside _ _ _ _ (f.room-b (some-factor g (ap has_k f.routine-is) z)) i l hi hl),
+        (λ z l j hl hj. rw c.before.before.before.before.before.before.before.before.mirrored-form.ensures (mirrored-inside g.uplo _ (order g) _ (f.room-a (some-factor g (ap has_k f.routine-is) z)) l _ (omega (arith, o)) (omega (arith, b, o)))),
       ),
     )
 
@@ -68,7 +68,7 @@ same_length : tie.Need-same-length
 same_length c = search rules
 
 returns : tie.Need-returns
-unfolding shape_c inPlace inTriangle
+unfolding shape_c in_place in_triangle
 returns c =
     let g = c.before.before.before.before.before.before.before.before.before.before.before.before.before.before.before.args.call in
     let f = c.before.before.before.before.before.before.before.before.before.before.before.before.before.before.before.requires.0 in
@@ -79,7 +79,7 @@ same-length-2 : tie.Need-same-length-2
 same-length-2 c = search rules
 
 returns-2 : tie.Need-returns-2
-unfolding shape_c inPlace inTriangle
+unfolding shape_c in_place in_triangle
 returns-2 c =
     let g = c.before.before.before.before.before.before.before.before.before.before.before.before.before.before.before.args.call in
     let f = c.before.before.before.before.before.before.before.before.before.before.before.before.before.before.before.requires.0 in

@@ -7,19 +7,19 @@ use native.Mathlib.Omega.{arith}
 use lib.ListN.{length}
 use Rattle.arrays.proofs.Tests.{or_left}
 use Rattle.definitions.specs.Check.{nat}
-use Rattle.arguments.specs.Tests.{badUplo}
+use Rattle.arguments.specs.Tests.{bad_uplo}
 use Rattle.arguments.proofs.Signed.{same}
-use Rattle.integer_solve.specs.Equations.{bad_order, badLength, zeroDiagonal, refusal}
+use Rattle.integer_solve.specs.Equations.{bad_order, bad_length, zero_diagonal, refusal}
 use Rattle.integer_solve.proofs.Numbers.{order-within, lengths-fit}
 use borrow.Author.Rules.{rules}
 use Rattle.integer_solve.proofs.refusal.Statement.{statement}
 use Rattle.integer_solve.proofs.refusal.Tie as tie
 
 -- the three tests, by what the functions say
-first : (c : tie.After-bad-uplo) → (bad_order c.before.before.args.n || badUplo c.before.before.args.uplo) ≡ (c.before.bad-order.result || c.bad-uplo.result)
+first : (c : tie.After-bad-uplo) → (bad_order c.before.before.args.n || bad_uplo c.before.before.args.uplo) ≡ (c.before.bad-order.result || c.bad-uplo.result)
 first c =
     let s = c.before.before in
-    sym (λ i. same bad_order s.args.n s.ranges.n.sfits c.before.bad-order.ensures i || same badUplo s.args.uplo s.ranges.uplo.sfits c.bad-uplo.ensures i)
+    sym (λ i. same bad_order s.args.n s.ranges.n.sfits c.before.bad-order.ensures i || same bad_uplo s.args.uplo s.ranges.uplo.sfits c.bad-uplo.ensures i)
 
 order : (c : tie.After-size) → c.size.result ≡ nat c.before.before.before.before.args.n
 order c = let s = c.before.before.before.before in same nat s.args.n s.ranges.n.sfits c.size.ensures
@@ -27,23 +27,23 @@ order c = let s = c.before.before.before.before in same nat s.args.n s.ranges.n.
 small : (c : tie.After-size) → c.size.result ≤ 64
 small c =
     let s = c.before.before.before.before in
-    let h = order-within s.args.n (or_left (bad_order s.args.n) (badUplo s.args.uplo) (first c.before.before ∙ c.before.if1.false)) in
+    let h = order-within s.args.n (or_left (bad_order s.args.n) (bad_uplo s.args.uplo) (first c.before.before ∙ c.before.if1.false)) in
     omega (arith, order c, h)
 
-second : (c : tie.After-bad-length) → let s = c.before.before.before.before.before in badLength (nat s.args.n) (length s.args.a.now) s.args.b s.args.x ≡ c.bad-length.result
+second : (c : tie.After-bad-length) → let s = c.before.before.before.before.before in bad_length (nat s.args.n) (length s.args.a.now) s.args.b s.args.x ≡ c.bad-length.result
 second c =
     let s = c.before.before.before.before.before in
-    sym (c.bad-length.ensures ∙ ap (λ (n : ℕ). badLength n (length s.args.a.now) s.args.b s.args.x) (order c.before))
+    sym (c.bad-length.ensures ∙ ap (λ (n : ℕ). bad_length n (length s.args.a.now) s.args.b s.args.x) (order c.before))
 
 zero-diagonal-requires : tie.Need-zero-diagonal-requires
 zero-diagonal-requires c κs =
     let h = lengths-fit _ _ _ _ (sym c.before.bad-length.ensures ∙ c.if2.false) in
     omega (arith, h.0)
 
-third : (c : tie.After-zero-diagonal) → let s = c.before.before.before.before.before.before.before in zeroDiagonal (nat s.args.n) s.args.a.now ≡ c.zero-diagonal.result
+third : (c : tie.After-zero-diagonal) → let s = c.before.before.before.before.before.before.before in zero_diagonal (nat s.args.n) s.args.a.now ≡ c.zero-diagonal.result
 third c =
     let s = c.before.before.before.before.before.before.before in
-    sym (c.zero-diagonal.ensures ∙ ap (λ (n : ℕ). zeroDiagonal n s.args.a.now) (order c.before.before.before))
+    sym (c.zero-diagonal.ensures ∙ ap (λ (n : ℕ). zero_diagonal n s.args.a.now) (order c.before.before.before))
 
 returns : tie.Need-returns
 unfolding refusal

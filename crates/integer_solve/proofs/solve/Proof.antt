@@ -9,10 +9,10 @@ use lib.ListN.{length}
 use mir.Syntax.{w32}
 use mir.Val.{to_z, of_z}
 use Rattle.arrays.proofs.Tests.{or_left, if-true, if-false}
-use Rattle.definitions.specs.Check.{nat, uploOf}
+use Rattle.definitions.specs.Check.{nat, uplo_of}
 use Rattle.definitions.specs.declared.Triangle.{Triangle}
 use Rattle.arguments.proofs.Signed.{same}
-use Rattle.integer_solve.specs.Equations.{zeroDiagonal, refusal}
+use Rattle.integer_solve.specs.Equations.{zero_diagonal, refusal}
 use Rattle.integer_solve.specs.Elimination.{Eliminated}
 use Rattle.integer_solve.proofs.Numbers.{order-within, lengths-fit, passed}
 use Rattle.integer_solve.proofs.Progress.{eliminated-solves}
@@ -35,7 +35,7 @@ accepted : (c : tie.Else1) → let g = c.before.before.args in refusal g.uplo g.
 accepted c = number c.before ∙ c.if1.false
 
 fitting : (c : tie.Else1) → let g = c.before.before.args in
-    (nat g.n ≤ 64) × (length g.a.now ≡ nat g.n * nat g.n) × (length g.b.now ≡ nat g.n) × (length g.x.now ≡ nat g.n) × (zeroDiagonal (nat g.n) g.a.now ≡ false)
+    (nat g.n ≤ 64) × (length g.a.now ≡ nat g.n * nat g.n) × (length g.b.now ≡ nat g.n) × (length g.x.now ≡ nat g.n) × (zero_diagonal (nat g.n) g.a.now ≡ false)
 fitting c =
     let g = c.before.before.args in
     let h = passed g.uplo g.n g.a.now (length g.b.now) (length g.x.now) (accepted c) in
@@ -54,14 +54,14 @@ eliminate-requires c κs =
 
 -- what the elimination says, of the triangle and the order that were given
 told : (c : tie.After-eliminate) (r : Bool) → c.eliminate.result ≡ r → let g = c.before.before.before.before.before.before.args in
-    Eliminated (uploOf g.uplo) (nat g.n) g.a.now g.b.now c.eliminate.new.1.1.1.1.0 r
+    Eliminated (uplo_of g.uplo) (nat g.n) g.a.now g.b.now c.eliminate.new.1.1.1.1.0 r
 told c r e =
     let g = c.before.before.before.before.before.before.args in
     let f = c.before.before.before.before.before.before.ranges in
-    let t = c.before.before.backward.ensures ∙ same uploOf g.uplo f.uplo.sfits c.before.before.before.uplo-of.ensures in
+    let t = c.before.before.backward.ensures ∙ same uplo_of g.uplo f.uplo.sfits c.before.before.before.uplo-of.ensures in
     let l = c.eliminate.new.1.1.1.1.0 in
-    subst (Eliminated (uploOf g.uplo) (nat g.n) g.a.now g.b.now l) e
-    (subst (λ (n : ℕ). Eliminated (uploOf g.uplo) n g.a.now g.b.now l c.eliminate.result) (fitting c.before.before.before.before).2
+    subst (Eliminated (uplo_of g.uplo) (nat g.n) g.a.now g.b.now l) e
+    (subst (λ (n : ℕ). Eliminated (uplo_of g.uplo) n g.a.now g.b.now l c.eliminate.result) (fitting c.before.before.before.before).2
     (subst (λ (u : Triangle). Eliminated u (length g.b.now) g.a.now g.b.now l c.eliminate.result) t c.eliminate.ensures))
 
 narrow-requires : tie.Need-narrow-requires
@@ -75,7 +75,7 @@ returns-2 c =
     let g = p.before.before.args in
     let found = told c.before.before.before.before.before.before true c.if2.true in (
       accepted p,
-      eliminated-solves (uploOf g.uplo) (nat g.n) g.a.now g.b.now _ g.x.now _ found (fitting p).3 (c.before.before.narrow.ensures ∙ if-true _ _ _ c.if2.true),
+      eliminated-solves (uplo_of g.uplo) (nat g.n) g.a.now g.b.now _ g.x.now _ found (fitting p).3 (c.before.before.narrow.ensures ∙ if-true _ _ _ c.if2.true),
     )
 
 returns-3 : tie.Need-returns-3

@@ -10,13 +10,13 @@ use mir.Val.{to_z, of_z}
 use mir.ValLaws.{to_z-of_z}
 use Rattle.arrays.specs.Update.{update, below}
 use Rattle.arrays.proofs.UpdateLaws.{below-keep, below-yet, below_more}
-use Rattle.integer_solve.specs.Elimination.{term, Grown, lessTerm}
+use Rattle.integer_solve.specs.Elimination.{term, Grown, less_term}
 use Rattle.integer_solve.proofs.Words.{same_word, grown-set, term-before, term-from}
 use Rattle.integer_solve.proofs.subtract.Statement.{statement}
 use Rattle.integer_solve.proofs.subtract.Tie as tie
 
 abbrev invariant-loop : tie.invariant-loop
-invariant-loop s₀ a at x lo hi i₀ s i = (lo ≤ i) × (i ≤ hi) × (length s ≡ length s₀) × (s ≡ update (below i (lessTerm a at (to_z w16 x) lo)) s₀) × Grown s₀ s
+invariant-loop s₀ a at x lo hi i₀ s i = (lo ≤ i) × (i ≤ hi) × (length s ≡ length s₀) × (s ≡ update (below i (less_term a at (to_z w16 x) lo)) s₀) × Grown s₀ s
 
 abbrev decreases-loop : tie.decreases-loop
 decreases-loop s₀ a at x lo hi i₀ s i = hi - i
@@ -42,7 +42,7 @@ loop-again c =
     let a = g.args in
     let kept = to_z-of_z w64 (get_or l.s l.i (pos 0)) (record { sfits = c.before.before.less-arg.given }) in
     let same = to_z-of_z w64 c.less.result (record { sfits = c.less.type-inv }) in
-    let new : c.less.result ≡ lessTerm a.a.now a.at (to_z w16 (of_z w16 a.x)) a.lo l.i (get_or l.s l.i (pos 0)) =
+    let new : c.less.result ≡ less_term a.a.now a.at (to_z w16 (of_z w16 a.x)) a.lo l.i (get_or l.s l.i (pos 0)) =
     c.less.ensures.0
     ∙ rw (kept, same_word (get_or a.a.now (a.at + l.i) (pos 0)) c.before.less-arg2.given, term-from a.a.now a.at (to_z w16 (of_z w16 a.x)) a.lo l.i (get_or l.s l.i (pos 0)) (omega arith)) in
     let size : nat_abs c.less.result ≤ nat_abs (get_or a.s.now l.i (pos 0)) + term = rw (kept, untouched t) at c.less.ensures.1 in
@@ -50,7 +50,7 @@ loop-again c =
       omega arith,
       omega arith,
       length-set l.s l.i c.less.result ∙ l.invariant.2,
-      ap (set l.s l.i) new ∙ below_more (pos 0) (lessTerm a.a.now a.at (to_z w16 (of_z w16 a.x)) a.lo) a.s.now l.s l.i l.invariant.3 (omega arith),
+      ap (set l.s l.i) new ∙ below_more (pos 0) (less_term a.a.now a.at (to_z w16 (of_z w16 a.x)) a.lo) a.s.now l.s l.i l.invariant.3 (omega arith),
       grown-set a.s.now l.s l.i c.less.result l.invariant.4 (omega arith) size,
     )
 
@@ -59,7 +59,7 @@ returns c =
     let l = c.before.loop in
     let a = c.before.before.args in
     let e : l.i ≡ a.hi = omega arith in (
-      subst (λ k. l.s ≡ update (below k (lessTerm a.a.now a.at a.x a.lo)) a.s.now) e
+      subst (λ k. l.s ≡ update (below k (less_term a.a.now a.at a.x a.lo)) a.s.now) e
           (rw (same_word a.x c.before.before.ranges.x.sfits) at l.invariant.3),
       l.invariant.4,
     )

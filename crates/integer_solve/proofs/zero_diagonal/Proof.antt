@@ -15,7 +15,7 @@ use mir.Val.{of_z}
 use Rattle.arrays.specs.Search.{lowest, Lowest}
 use Rattle.arrays.proofs.SearchLaws.{lowest-only, lowest-none}
 use Rattle.definitions.specs.Storage.{stored}
-use Rattle.integer_solve.specs.Equations.{zeroDiagonal}
+use Rattle.integer_solve.specs.Equations.{zero_diagonal}
 use Rattle.integer_solve.proofs.Integers.{abs-zero}
 use Rattle.integer_solve.proofs.Words.{fits_16, zero_bits, one_more}
 use Rattle.integer_solve.proofs.zero_diagonal.Statement.{statement}
@@ -46,14 +46,14 @@ add-if1 c = omega (arith, within c)
 mul-if1-2 : tie.Need-overflow-mul-if1-2 invariant-loop decreases-loop
 mul-if1-2 c = omega (arith, within c)
 
-found : (a : List ℤ) (n i : ℕ) → i < n → ((p : ℕ) → p < i → test a n p ≡ false) → test a n i ≡ true → true ≡ zeroDiagonal n a
-unfolding zeroDiagonal
+found : (a : List ℤ) (n i : ℕ) → i < n → ((p : ℕ) → p < i → test a n p ≡ false) → test a n i ≡ true → true ≡ zero_diagonal n a
+unfolding zero_diagonal
 found a n i h before here =
     let r : Lowest (test a n) n i = record { within = omega arith; passes = λ _. here; before = before } in
     sym (lt-ltb (lowest (test a n) n) n (omega (arith, lowest-only (test a n) n i r)))
 
-not_found : (a : List ℤ) (n : ℕ) → ((p : ℕ) → p < n → test a n p ≡ false) → false ≡ zeroDiagonal n a
-unfolding zeroDiagonal
+not_found : (a : List ℤ) (n : ℕ) → ((p : ℕ) → p < n → test a n p ≡ false) → false ≡ zero_diagonal n a
+unfolding zero_diagonal
 not_found a n h = sym (le-ltb (lowest (test a n) n) n (omega (arith, lowest-only (test a n) n n (lowest-none (test a n) n h))))
 
 returns : tie.Need-returns invariant-loop decreases-loop

@@ -3,7 +3,7 @@
 use mathlib.Core.Path.{refl, ap, ◌∙◌}
 use Rattle.arrays.proofs.PartLaws.{tail-length, column-room, columns-room}
 use Rattle.packing.proofs.FactorLaws.{upward}
-use Rattle.lines.specs.Lines.{lineForm}
+use Rattle.lines.specs.Lines.{line_form}
 use Rattle.lines.proofs.TakeLaws.{buffer-room, left-inside, right-inside, put-left, put_right}
 use native.Mathlib.Omega.{arith}
 use borrow.Author.Rules.{rules}
@@ -34,7 +34,7 @@ lines-requires c κs =
       simp tail-length (omega (arith, room, rows, c.before.before.before.before.before.requires.0)),
       upward _ _ (omega (arith, c.before.before.before.before.before.requires.0)),
       upward _ _ (omega (arith, c.before.before.before.before.before.requires.0)),
-      λ q l hq hl. left-inside c.before.before.before.before.before.args.side (c.before.before.line-form.ensures ∙ ap (lineForm c.before.before.before.before.before.args.side) c.before.if1.true) 64 64 64 _ 0 q l (omega (arith, c.before.before.before.before.before.requires.0)) (omega (arith, c.before.before.before.before.before.requires.0)) (buffer-room c.before.before.before.before.before.args.side _ c.before.before.before.before.before.requires.0.5),
+      λ q l hq hl. left-inside c.before.before.before.before.before.args.side (c.before.before.line-form.ensures ∙ ap (line_form c.before.before.before.before.before.args.side) c.before.if1.true) 64 64 64 _ 0 q l (omega (arith, c.before.before.before.before.before.requires.0)) (omega (arith, c.before.before.before.before.before.requires.0)) (buffer-room c.before.before.before.before.before.args.side _ c.before.before.before.before.before.requires.0.5),
     )
 
 same_length : tie.Need-same-length
@@ -45,7 +45,7 @@ returns c =
     let g = c.before.before.before.before.before.before.before.before.args in
     let room = rw c.before.before.before.before.if1.true at c.before.before.before.before.before.before.before.before.requires.1 in
     let rows = column-room g.ld c.before.before.before.before.before.before.before.before.requires.0.2 in
-    rw c.before.before.before.before.if1.true (put-left g.side (c.before.before.before.before.before.line-form.ensures ∙ ap (lineForm g.side) c.before.before.before.before.if1.true) g.ld g.m g.lines g.x0 g.n g.x.now g.b.now _ (omega (arith, room, c.before.before.before.before.before.before.before.before.requires.0)) room c.before.before.before.before.before.before.before.before.requires.0.4 (omega (arith, room, rows, c.before.before.before.before.before.before.before.before.requires.0)) c.before.before.lines.ensures)
+    rw c.before.before.before.before.if1.true (put-left g.side (c.before.before.before.before.before.line-form.ensures ∙ ap (line_form g.side) c.before.before.before.before.if1.true) g.ld g.m g.lines g.x0 g.n g.x.now g.b.now _ (omega (arith, room, c.before.before.before.before.before.before.before.before.requires.0)) room c.before.before.before.before.before.before.before.before.requires.0.4 (omega (arith, room, rows, c.before.before.before.before.before.before.before.before.requires.0)) c.before.before.lines.ensures)
 
 mul-to : tie.Need-overflow-mul-to
 mul-to c = omega (arith, rw c.if1.false at c.before.before.before.before.requires.1, columns-room c.before.before.before.before.args.ld c.before.before.before.before.args.x0 c.before.before.before.before.args.n c.before.before.before.before.requires.0.4, column-room c.before.before.before.before.args.ld c.before.before.before.before.requires.0.0)
@@ -72,7 +72,7 @@ lines-requires-2 c κs =
       simp tail-length (omega (arith, room, before, first, c.before.before.before.before.before.requires.0)),
       upward _ _ (omega (arith, c.before.before.before.before.before.requires.0)),
       upward _ _ (omega (arith, c.before.before.before.before.before.requires.0)),
-      λ l q hl hq. right-inside c.before.before.before.before.before.args.side (c.before.before.line-form.ensures ∙ ap (lineForm c.before.before.before.before.before.args.side) c.before.if1.false) 64 64 64 _ 0 q l (omega (arith, c.before.before.before.before.before.requires.0)) (omega (arith, c.before.before.before.before.before.requires.0)) (buffer-room c.before.before.before.before.before.args.side _ c.before.before.before.before.before.requires.0.5),
+      λ l q hl hq. right-inside c.before.before.before.before.before.args.side (c.before.before.line-form.ensures ∙ ap (line_form c.before.before.before.before.before.args.side) c.before.if1.false) 64 64 64 _ 0 q l (omega (arith, c.before.before.before.before.before.requires.0)) (omega (arith, c.before.before.before.before.before.requires.0)) (buffer-room c.before.before.before.before.before.args.side _ c.before.before.before.before.before.requires.0.5),
     )
 
 same-length-2 : tie.Need-same-length-2
@@ -84,7 +84,7 @@ returns-2 c =
     let room = rw c.before.before.before.before.if1.false at c.before.before.before.before.before.before.before.before.requires.1 in
     let before = columns-room g.ld g.x0 g.n c.before.before.before.before.before.before.before.before.requires.0.4 in
     let first = column-room g.ld c.before.before.before.before.before.before.before.before.requires.0.0 in
-    rw c.before.before.before.before.if1.false (put_right g.side (c.before.before.before.before.before.line-form.ensures ∙ ap (lineForm g.side) c.before.before.before.before.if1.false) g.ld g.m g.lines g.x0 g.n _ g.x.now g.b.now _ (omega (arith, room, c.before.before.before.before.before.before.before.before.requires.0)) room c.before.before.before.before.before.before.before.before.requires.0.4 refl (omega (arith, room, before, first, c.before.before.before.before.before.before.before.before.requires.0)) c.before.before.lines2.ensures)
+    rw c.before.before.before.before.if1.false (put_right g.side (c.before.before.before.before.before.line-form.ensures ∙ ap (line_form g.side) c.before.before.before.before.if1.false) g.ld g.m g.lines g.x0 g.n _ g.x.now g.b.now _ (omega (arith, room, c.before.before.before.before.before.before.before.before.requires.0)) room c.before.before.before.before.before.before.before.before.requires.0.4 refl (omega (arith, room, before, first, c.before.before.before.before.before.before.before.before.requires.0)) c.before.before.lines2.ensures)
 
 pub put_spec : {M : Type 1} → statement M
 put_spec =

@@ -8,7 +8,7 @@ use Rattle.arrays.specs.Choice.{if◌then◌else◌}
 use Rattle.arrays.specs.Fold.{fold}
 use Rattle.definitions.specs.Element.{result}
 use Rattle.definitions.specs.Many.{item}
-use Rattle.many.specs.Panel.{panelOf, Prepared}
+use Rattle.many.specs.Panel.{panel_of, Prepared}
 use Rattle.many.proofs.PanelLaws.{over-fits, items-over-panel, items-idle}
 use borrow.Author.Rules.{rules}
 use Rattle.many.proofs.all.Statement.{statement}
@@ -34,7 +34,7 @@ panel-requires c κs =
     subst (λ (n : ℕ). n ≤ length (if s.own then s.a.now else s.pack.now)) (sym c.panel-size.ensures) (prepared c.before).room
 
 -- the panel
-part : (c : tie.After-panel) → let s = c.before.before.before.before.before.before.before.before.before.args in c.panel.result.now ≡ panelOf s.call s.own s.a.now s.pack.now
+part : (c : tie.After-panel) → let s = c.before.before.before.before.before.before.before.before.before.args in c.panel.result.now ≡ panel_of s.call s.own s.a.now s.pack.now
 part c =
     let s = c.before.before.before.before.before.before.before.before.before.args in
     c.panel.ensures ∙ ap (λ (n : ℕ). take n (if s.own then s.a.now else s.pack.now)) c.before.panel-size.ensures

@@ -4,12 +4,12 @@ use mathlib.Core.Path.{ap, ◌∙◌}
 use mir.Syntax.{w32}
 use mir.ValLaws.{to_z-of_z}
 use Rattle.definitions.specs.Check.{negative, nat}
-use Rattle.definitions.specs.Many.{badCount}
+use Rattle.definitions.specs.Many.{bad_count}
 use Rattle.many.proofs.bad_count.Statement.{statement}
 use Rattle.many.proofs.bad_count.Tie as tie
 
 returns : tie.Need-returns
-unfolding badCount
+unfolding bad_count
 returns c =
     let e = to_z-of_z w32 c.before.before.args.count c.before.before.ranges.count in
     simp (c.negative.ensures ∙ ap negative e, c.before.size.ensures ∙ ap nat e)

@@ -1,14 +1,14 @@
 -- `bad_stride` is the test of 43.
 -- Assumes nothing.
 use Rattle.definitions.specs.Check.{negative, nat}
-use Rattle.definitions.specs.Many.{badStride}
+use Rattle.definitions.specs.Many.{bad_stride}
 use Rattle.arguments.proofs.Signed.{same}
 use borrow.Author.Rules.{rules}
 use Rattle.many.proofs.bad_stride.Statement.{statement}
 use Rattle.many.proofs.bad_stride.Tie as tie
 
 returns : tie.Need-returns
-unfolding badStride
+unfolding bad_stride
 returns c =
     let t = c.before.before.before.before.before.before.before.before.args.t in
     let f = c.before.before.before.before.before.before.before.struct_told.given in

@@ -3,14 +3,14 @@
 use mathlib.Core.Path.{refl}
 use mir.Syntax.{w32}
 use mir.ValLaws.{to_z-of_z}
-use Rattle.definitions.specs.Check.{is, transOf, call_of}
+use Rattle.definitions.specs.Check.{is, trans_of, call_of}
 use Rattle.many.proofs.RunLaws.{is-many}
 use borrow.Author.Rules.{rules}
 use Rattle.many.proofs.gemm_many.Statement.{statement}
 use Rattle.many.proofs.gemm_many.Tie as tie
 
 run-requires : tie.Need-run-requires
-unfolding call_of transOf is
+unfolding call_of trans_of is
 run-requires c κs = record {
   is-gemm = refl;
   plain = refl;

@@ -3,13 +3,13 @@
 use mathlib.Core.Path.{sym, ◌∙◌}
 use native.Mathlib.Omega.{arith}
 use Rattle.arguments.proofs.Room.{product-fits}
-use Rattle.many.specs.Panel.{panelSize}
+use Rattle.many.specs.Panel.{panel_size}
 use borrow.Author.Rules.{rules}
 use Rattle.many.proofs.panel_size.Statement.{statement}
 use Rattle.many.proofs.panel_size.Tie as tie
 
 returns : tie.Need-returns
-unfolding panelSize
+unfolding panel_size
 returns c = simp (sym c.before.untested.ensures ∙ c.if1.true)
 
 mul-result : tie.Need-overflow-mul-result
@@ -18,7 +18,7 @@ mul-result c =
     omega (arith, product-fits k.m k.k (omega arith) (omega arith))
 
 returns-2 : tie.Need-returns-2
-unfolding panelSize
+unfolding panel_size
 returns-2 c = simp (sym c.before.before.before.untested.ensures ∙ c.before.before.if1.false)
 
 pub panel-size-spec : {M : Type 1} → statement M

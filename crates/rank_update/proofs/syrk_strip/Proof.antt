@@ -6,7 +6,7 @@ use mathlib.Core.List.{[], ◌∷◌}
 use native.Mathlib.Omega.{arith}
 use lib.ListN.{length}
 use borrow.Author.Rules.{rules}
-use Rattle.definitions.specs.Call.{hasM, inPlace, inTriangle, shapeA, shape_c}
+use Rattle.definitions.specs.Call.{has_m, in_place, in_triangle, shape_a, shape_c}
 use Rattle.definitions.specs.Element.{◌times◌}
 use Rattle.definitions.specs.declared.Routine.TheVariants.{Syrk}
 use Rattle.packing.specs.Factor.{entry_of}
@@ -56,7 +56,7 @@ same_length : tie.Need-same-length
 same_length c = search rules
 
 returns : tie.Need-returns
-unfolding shape_c hasM inPlace inTriangle
+unfolding shape_c has_m in_place in_triangle
 returns c =
     let g = c.before.before.before.before.before.before.before.before.before.before.before.before.before.before.before.before.args.call in
     let f = c.before.before.before.before.before.before.before.before.before.before.before.before.before.before.before.before.requires.0 in
@@ -70,7 +70,7 @@ factor-requires : tie.Need-factor-requires
 factor-requires c κs = search rules
 
 trapezoid-requires : tie.Need-trapezoid-requires
-unfolding shapeA shape_c
+unfolding shape_a shape_c
 trapezoid-requires c κs =
     let g = c.before.before.before.before.before.before.before.before.before.before.before.before.before.before.before.before.before.before.args.call in
     let f = c.before.before.before.before.before.before.before.before.before.before.before.before.before.before.before.before.before.before.requires.0 in
@@ -85,7 +85,7 @@ same-length-2 : tie.Need-same-length-2
 same-length-2 c = search rules
 
 returns-2 : tie.Need-returns-2
-unfolding shape_c hasM inPlace inTriangle
+unfolding shape_c has_m in_place in_triangle
 returns-2 c =
     let g = c.before.before.before.before.before.before.before.before.before.before.before.before.before.before.before.before.before.before.before.before.before.args.call in
     let f = c.before.before.before.before.before.before.before.before.before.before.before.before.before.before.before.before.before.before.before.before.before.requires.0 in

@@ -2,7 +2,7 @@
 -- Assumes nothing.
 use mathlib.Core.Path.{refl, ap, ◌∙◌}
 use Rattle.definitions.specs.Number.{scalar}
-use Rattle.definitions.specs.Sheet.{argsOf}
+use Rattle.definitions.specs.Sheet.{args_of}
 use Rattle.records.specs.Judgement.{sizes}
 use Rattle.records.proofs.Judgements.{word-is, word_small, length-is}
 use borrow.Author.Rules.{rules}
@@ -52,7 +52,7 @@ word-requires-11 : tie.Need-word-requires-11
 word-requires-11 c κs = search rules
 
 returns : tie.Need-returns
-unfolding argsOf
+unfolding args_of
 returns c = (
   λ t p w h ea eb.
       let l = length-is t _ p _ w h.0 (sizes c.before.before.before.before.before.before.before.before.before.before.before.before.before.before.before.before.args.lx c.before.before.before.before.before.before.before.before.before.before.before.before.before.before.before.before.args.ly c.before.before.before.before.before.before.before.before.before.before.before.before.before.before.before.before.args.lz) in

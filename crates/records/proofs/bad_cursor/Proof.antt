@@ -8,19 +8,19 @@ use mir.Syntax.{w32}
 use mir.Val.{to_z, of_z}
 use mir.ValLaws.{to_z-of_z}
 use Rattle.definitions.specs.Check.{nat, negative}
-use Rattle.definitions.specs.Machine.{stripsOf}
+use Rattle.definitions.specs.Machine.{strips_of}
 use Rattle.definitions.specs.Sheet.{Sheet, Arrays, act}
-use Rattle.records.specs.Judgement.{sheetOf, arraysOf}
+use Rattle.records.specs.Judgement.{sheet_of, arrays_of}
 use Rattle.records.proofs.Trailer.{cursor-s, cursor-p, cursor-first, cursor-finish, cursor-strip}
 use borrow.Author.Rules.{rules}
 use Rattle.records.proofs.bad_cursor.Statement.{statement}
 use Rattle.records.proofs.bad_cursor.Tie as tie
 
 abbrev sheet : tie.Start → Sheet
-sheet s = sheetOf s.args.sheet.now s.args.scalars.now
+sheet s = sheet_of s.args.sheet.now s.args.scalars.now
 
 abbrev arrays : tie.Start → Arrays
-arrays s = arraysOf s.args.x.now s.args.y.now s.args.z.now
+arrays s = arrays_of s.args.x.now s.args.y.now s.args.z.now
 
 at-s : (s : tie.Start) → to_z w32 (of_z w32 s.args.s) ≡ s.args.s
 at-s s = to_z-of_z w32 s.args.s s.ranges.s
@@ -85,7 +85,7 @@ strips-of-requires c κs = search rules
 
 returns-5 : tie.Need-returns-5
 returns-5 c =
-    (λ i. leb ((c.strips-of.ensures ∙ ap (λ q. stripsOf (act (sheet c.before.before.before.before.before.before.before.before.before.before.before.before.before) q (arrays c.before.before.before.before.before.before.before.before.before.before.before.before.before))) (is-p c.before.before.before.before)) i) (is-s c.before.before.before i))
+    (λ i. leb ((c.strips-of.ensures ∙ ap (λ q. strips_of (act (sheet c.before.before.before.before.before.before.before.before.before.before.before.before.before) q (arrays c.before.before.before.before.before.before.before.before.before.before.before.before.before))) (is-p c.before.before.before.before)) i) (is-s c.before.before.before i))
     ∙ cursor-strip (sheet c.before.before.before.before.before.before.before.before.before.before.before.before.before) (arrays c.before.before.before.before.before.before.before.before.before.before.before.before.before) c.before.before.before.before.before.before.before.before.before.before.before.before.before.args.p c.before.before.before.before.before.before.before.before.before.before.before.before.before.args.s (not-s c.before.before.before.before.before.before.before) (not-p c.before.before.before.before.before) (λ z. c.before.before.if3.false (is-s c.before.before.before ∙ z))
     (omega (arith, c.before.if4.false, c.before.before.before.before.before.before.before.before.before.before.before.before.before.requires.0.1, is-p c.before.before.before.before))
 

@@ -4,7 +4,7 @@ use mathlib.Core.Path.{ap, ◌∙◌}
 use mir.Syntax.{w32}
 use mir.ValLaws.{to_z-of_z}
 use Rattle.definitions.specs.Check.{nat, negative}
-use Rattle.records.specs.Judgement.{badOffset}
+use Rattle.records.specs.Judgement.{bad_offset}
 use borrow.Author.Rules.{rules}
 use Rattle.records.proofs.bad_offset.Statement.{statement}
 use Rattle.records.proofs.bad_offset.Tie as tie
@@ -13,7 +13,7 @@ cast-result : tie.Need-overflow-cast-result
 cast-result c = search rules
 
 returns : tie.Need-returns
-unfolding badOffset
+unfolding bad_offset
 returns c =
     let number = to_z-of_z w32 c.before.before.before.before.args.number c.before.before.before.before.ranges.number in
     let offset = to_z-of_z w32 c.before.before.before.before.args.offset c.before.before.before.before.ranges.offset in

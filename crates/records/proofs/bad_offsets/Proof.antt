@@ -3,7 +3,7 @@
 use Prim.Native.Nat.{◌+◌}
 use mathlib.Core.Path.{refl, ap, ◌∙◌}
 use mathlib.Core.Bool.{◌||◌}
-use Rattle.records.specs.Judgement.{sizes, badOffset}
+use Rattle.records.specs.Judgement.{sizes, bad_offset}
 use Rattle.records.proofs.Judgements.{word-is, offsets_are}
 use borrow.Author.Rules.{rules}
 use Rattle.records.proofs.bad_offsets.Statement.{statement}
@@ -44,9 +44,9 @@ returns c t p w h =
     let a' = word-is t _ p _ w h.0 10 10 _ refl c.before.before.before.before.word4.type-inv c.before.before.before.before.word4.ensures in
     let b = word-is t _ p _ w h.0 _ _ _ s c.before.before.word5.type-inv c.before.before.word5.ensures in
     let b' = word-is t _ p _ w h.0 _ _ _ (ap (λ n. n + 1) s) c.before.word6.type-inv c.before.word6.ensures in
-    let x = c.before.before.before.before.before.before.bad-offset.ensures ∙ (λ i. badOffset size (out i) (out' i)) in
-    let y = c.before.before.before.bad-offset2.ensures ∙ (λ i. badOffset size (a i) (a' i)) in
-    let z = c.bad-offset3.ensures ∙ (λ i. badOffset size (b i) (b' i)) in
+    let x = c.before.before.before.before.before.before.bad-offset.ensures ∙ (λ i. bad_offset size (out i) (out' i)) in
+    let y = c.before.before.before.bad-offset2.ensures ∙ (λ i. bad_offset size (a i) (a' i)) in
+    let z = c.bad-offset3.ensures ∙ (λ i. bad_offset size (b i) (b' i)) in
     (λ i. x i || (y i || z i)) ∙ offsets_are t p size c.before.before.before.before.before.before.before.before.before.before.before.args.routine
 
 pub bad-offsets-spec : {M : Type 1} → statement M

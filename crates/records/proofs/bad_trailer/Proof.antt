@@ -9,14 +9,14 @@ use mir.Syntax.{w32}
 use mir.ValLaws.{to_z-of_z}
 use Rattle.definitions.specs.Check.{negative}
 use Rattle.definitions.specs.Sheet.{index, count, word}
-use Rattle.records.specs.Judgement.{sheetOf}
+use Rattle.records.specs.Judgement.{sheet_of}
 use Rattle.records.proofs.Trailer.{no-trailer, trailer-is}
 use borrow.Author.Rules.{rules}
 use Rattle.records.proofs.bad_trailer.Statement.{statement}
 use Rattle.records.proofs.bad_trailer.Tie as tie
 
 returns : tie.Need-returns
-returns c scalars = no-trailer (sheetOf c.before.args.sheet.now scalars) c.if1.true
+returns c scalars = no-trailer (sheet_of c.before.args.sheet.now scalars) c.if1.true
 
 size-at-requires : tie.Need-size-at-requires
 size-at-requires c κs = search rules
@@ -58,7 +58,7 @@ returns-2 : tie.Need-returns-2
 unfolding index count word
 returns-2 c scalars =
     let words = c.before.before.before.before.before.before.before.args.sheet.now in
-    trailer-is (sheetOf words scalars) (omega (arith, c.before.before.before.before.before.before.if1.false)) _ _ _ _
+    trailer-is (sheet_of words scalars) (omega (arith, c.before.before.before.before.before.before.if1.false)) _ _ _ _
     (c.before.before.negative.ensures ∙ ap negative (to_z-of_z w32 (get_or words (length words - 2) (pos 0)) (record { sfits = c.before.before.before.negative-arg.given })))
     (c.negative2.ensures ∙ ap negative (to_z-of_z w32 (get_or words (length words - 1) (pos 0)) (record { sfits = c.before.negative-arg2.given })))
     c.before.before.before.before.before.size-at.ensures.0 c.before.before.before.before.size-at2.ensures.0

@@ -1,14 +1,14 @@
 -- `output` by the routine.
 -- Assumes nothing.
 use native.Mathlib.Omega.{arith}
-use Rattle.definitions.specs.Call.{inPlace}
+use Rattle.definitions.specs.Call.{in_place}
 use Rattle.definitions.specs.Sheet.{output}
 use borrow.Author.Rules.{rules}
 use Rattle.records.proofs.output.Statement.{statement}
 use Rattle.records.proofs.output.Tie as tie
 
 pub output-spec : {M : Type 1} → statement M
-unfolding output inPlace
+unfolding output in_place
 output-spec =
     tie.close
     (tie.spec

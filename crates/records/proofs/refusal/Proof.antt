@@ -12,18 +12,18 @@ use mir.ValLaws.{to_z-of_z}
 use Rattle.arrays.proofs.Tests.{or_right}
 use Rattle.definitions.specs.Check.{nat}
 use Rattle.definitions.specs.Sheet.{Sheet, Arrays, index, count, word, sound, records}
-use Rattle.definitions.specs.Run.{tooShort, badCursor}
-use Rattle.records.specs.Judgement.{sheetOf, arraysOf}
+use Rattle.definitions.specs.Run.{too_short, bad_cursor}
+use Rattle.records.specs.Judgement.{sheet_of, arrays_of}
 use Rattle.records.proofs.Trailer.{sound-long, sound-room, refused-34, refused-35, refused-36, not-refused}
 use borrow.Author.Rules.{rules}
 use Rattle.records.proofs.refusal.Statement.{statement}
 use Rattle.records.proofs.refusal.Tie as tie
 
 abbrev sheet : tie.Start → Sheet
-sheet s = sheetOf s.args.sheet.now s.args.scalars.now
+sheet s = sheet_of s.args.sheet.now s.args.scalars.now
 
 abbrev arrays : tie.Start → Arrays
-arrays s = arraysOf s.args.x.now s.args.y.now s.args.z.now
+arrays s = arrays_of s.args.x.now s.args.y.now s.args.z.now
 
 trailer : (c : tie.Else1) → not (sound (sheet c.before.before.before.before.before.before)) ≡ false
 trailer c = sym (c.before.bad-trailer.ensures c.before.before.before.before.before.before.args.scalars.now) ∙ c.if1.false
@@ -39,16 +39,16 @@ count-is : (c : tie.After-size-at2) → c.size-at2.result ≡ records (sheet c.b
 unfolding records count word
 count-is c = c.size-at2.ensures.0
 
-short-is : (c : tie.After-too-short) → c.too_short.result ≡ tooShort (sheet c.before.before.before.before.before.before.before.before.before) c.before.before.before.before.before.before.before.before.before.args.answers.now
-unfolding tooShort
+short-is : (c : tie.After-too-short) → c.too_short.result ≡ too_short (sheet c.before.before.before.before.before.before.before.before.before) c.before.before.before.before.before.before.before.before.before.args.answers.now
+unfolding too_short
 short-is c =
     let n = count-is c.before in
     c.too_short.ensures ∙ (λ i. ltb (length c.before.before.before.before.before.before.before.before.before.args.answers.now) (n i) || ltb (length c.before.before.before.before.before.before.before.before.before.args.scalars.now) (2 * n i))
 
-cursor-is : (c : tie.After-bad-cursor) → c.bad-cursor.result ≡ badCursor (sheet c.before.before.before.before.before.before.before.before.before.before.before) (arrays c.before.before.before.before.before.before.before.before.before.before.before) c.before.before.before.before.before.before.before.before.before.before.before.args.p c.before.before.before.before.before.before.before.before.before.before.before.args.s
+cursor-is : (c : tie.After-bad-cursor) → c.bad-cursor.result ≡ bad_cursor (sheet c.before.before.before.before.before.before.before.before.before.before.before) (arrays c.before.before.before.before.before.before.before.before.before.before.before) c.before.before.before.before.before.before.before.before.before.before.before.args.p c.before.before.before.before.before.before.before.before.before.before.before.args.s
 cursor-is c =
     c.bad-cursor.ensures
-    ∙ (λ i. badCursor (sheet c.before.before.before.before.before.before.before.before.before.before.before) (arrays c.before.before.before.before.before.before.before.before.before.before.before) (to_z-of_z w32 c.before.before.before.before.before.before.before.before.before.before.before.args.p c.before.before.before.before.before.before.before.before.before.before.before.ranges.p i) (to_z-of_z w32 c.before.before.before.before.before.before.before.before.before.before.before.args.s c.before.before.before.before.before.before.before.before.before.before.before.ranges.s i))
+    ∙ (λ i. bad_cursor (sheet c.before.before.before.before.before.before.before.before.before.before.before) (arrays c.before.before.before.before.before.before.before.before.before.before.before) (to_z-of_z w32 c.before.before.before.before.before.before.before.before.before.before.before.args.p c.before.before.before.before.before.before.before.before.before.before.before.ranges.p i) (to_z-of_z w32 c.before.before.before.before.before.before.before.before.before.before.before.args.s c.before.before.before.before.before.before.before.before.before.before.before.ranges.s i))
 
 bad-trailer-requires : tie.Need-bad-trailer-requires
 bad-trailer-requires c κs = search rules

@@ -1,12 +1,12 @@
 -- `routine` by its number.
 -- Assumes nothing.
 use borrow.Author.Tests.{ne_eqb}
-use Rattle.records.specs.Judgement.{routineAt}
+use Rattle.records.specs.Judgement.{routine_at}
 use Rattle.records.proofs.routine.Statement.{statement}
 use Rattle.records.proofs.routine.Tie as tie
 
 pub routine-spec : {M : Type 1} → statement M
-unfolding routineAt
+unfolding routine_at
 routine-spec =
     tie.close
     (tie.spec

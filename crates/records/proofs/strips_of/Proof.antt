@@ -4,7 +4,7 @@ use mathlib.Core.Path.{◌≡◌, refl, sym, ap, ◌∙◌}
 use native.Mathlib.Omega.{arith}
 use Rattle.definitions.specs.Check.{width}
 use Rattle.definitions.specs.Sheet.{Sheet, Arrays, width_of}
-use Rattle.records.specs.Judgement.{sheetOf, arraysOf}
+use Rattle.records.specs.Judgement.{sheet_of, arrays_of}
 use Rattle.records.proofs.Judgements.{word-is}
 use Rattle.records.proofs.Acts.{rejected-strips, accepted-strips, none-act, work-act, none-known, work-known}
 use borrow.Author.Rules.{rules}
@@ -12,10 +12,10 @@ use Rattle.records.proofs.strips_of.Statement.{statement}
 use Rattle.records.proofs.strips_of.Tie as tie
 
 abbrev sheet : tie.Start → Sheet
-sheet s = sheetOf s.args.sheet.now s.args.scalars.now
+sheet s = sheet_of s.args.sheet.now s.args.scalars.now
 
 abbrev arrays : tie.Start → Arrays
-arrays s = arraysOf s.args.x.now s.args.y.now s.args.z.now
+arrays s = arrays_of s.args.x.now s.args.y.now s.args.z.now
 
 width_is : (c : tie.After-width) → c.width.result ≡ width_of (sheet c.before.before.before.before.before.before.before.before.before.before) c.before.before.before.before.before.before.before.before.before.before.args.p
 unfolding width_of

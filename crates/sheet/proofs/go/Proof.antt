@@ -10,24 +10,24 @@ use mir.ValLaws.{to_z-of_z}
 use Rattle.definitions.specs.Sheet.{Sheet, act}
 use Rattle.definitions.specs.Run.{Machine, begin}
 use Rattle.definitions.proofs.Records.{act-stable}
-use Rattle.records.specs.Judgement.{sheetOf, arraysOf}
+use Rattle.records.specs.Judgement.{sheet_of, arrays_of}
 use Rattle.sheet.proofs.Steps.{Running, running-start, running-step, running-full, running-done}
 use Rattle.sheet.proofs.go.Statement.{statement}
 use Rattle.sheet.proofs.go.Tie as tie
 
 abbrev invariant-loop : tie.invariant-loop
 invariant-loop sheet scalars index count x₀ y₀ z₀ answers₀ p s budget q₀ t₀ found₀ steps₀ x y z answers q t found steps =
-    Running count (act (sheetOf sheet scalars)) (act-stable (sheetOf sheet scalars)) budget (begin (arraysOf x₀ y₀ z₀) answers₀ p s) steps (to_z w32 found) (begin (arraysOf x y z) answers q t)
+    Running count (act (sheet_of sheet scalars)) (act-stable (sheet_of sheet scalars)) budget (begin (arrays_of x₀ y₀ z₀) answers₀ p s) steps (to_z w32 found) (begin (arrays_of x y z) answers q t)
     × (length x ≡ length x₀) × (length y ≡ length y₀) × (length z ≡ length z₀) × (length answers ≡ length answers₀) × (t < 2 ^ 31)
 
 abbrev decreases-loop : tie.decreases-loop
 decreases-loop sheet scalars index count x₀ y₀ z₀ answers₀ p s budget q₀ t₀ found₀ steps₀ x y z answers q t found steps = budget - steps
 
 abbrev sheet : tie.Start invariant-loop decreases-loop → Sheet
-sheet s = sheetOf s.args.sheet.now s.args.scalars.now
+sheet s = sheet_of s.args.sheet.now s.args.scalars.now
 
 abbrev begun : tie.Start invariant-loop decreases-loop → Machine
-begun s = begin (arraysOf s.args.x.now s.args.y.now s.args.z.now) s.args.answers.now s.args.p s.args.s
+begun s = begin (arrays_of s.args.x.now s.args.y.now s.args.z.now) s.args.answers.now s.args.p s.args.s
 
 loop-holds : tie.Need-loop-init invariant-loop decreases-loop
 loop-holds c = (running-start c.before.before.before.before.args.count (act (sheet c.before.before.before.before)) (act-stable (sheet c.before.before.before.before)) c.before.before.before.before.args.budget (begun c.before.before.before.before) c.before.before.before.before.requires.1.0, refl, refl, refl, refl, c.before.before.before.before.requires.1.1)
@@ -46,7 +46,7 @@ same-length-4 c = c.before.before.loop.invariant.4
 
 returns : tie.Need-returns invariant-loop decreases-loop
 unfolding begin
-returns c = let h = running-done c.before.before.before.before.before.before.before.args.count (act (sheet c.before.before.before.before.before.before.before)) (act-stable (sheet c.before.before.before.before.before.before.before)) c.before.before.before.before.before.before.before.args.budget (begun c.before.before.before.before.before.before.before) c.before.before.loop.steps (to_z w32 c.before.before.loop.zero) (begin (arraysOf c.before.before.loop.x c.before.before.loop.y c.before.before.loop.z) c.before.before.loop.answers c.before.before.loop.q c.before.before.loop.t) c.before.before.loop.invariant.0 c.if1.true in (h.0, h.1, c.before.before.loop.invariant.0.placed.within, c.before.before.loop.invariant.5, h.2)
+returns c = let h = running-done c.before.before.before.before.before.before.before.args.count (act (sheet c.before.before.before.before.before.before.before)) (act-stable (sheet c.before.before.before.before.before.before.before)) c.before.before.before.before.before.before.before.args.budget (begun c.before.before.before.before.before.before.before) c.before.before.loop.steps (to_z w32 c.before.before.loop.zero) (begin (arrays_of c.before.before.loop.x c.before.before.loop.y c.before.before.loop.z) c.before.before.loop.answers c.before.before.loop.q c.before.before.loop.t) c.before.before.loop.invariant.0 c.if1.true in (h.0, h.1, c.before.before.loop.invariant.0.placed.within, c.before.before.loop.invariant.5, h.2)
 
 mul-step : tie.Need-overflow-mul-step invariant-loop decreases-loop
 mul-step c = omega (arith, c.before.before.before.before.before.before.before.requires.0, c.if1.false)
@@ -75,7 +75,7 @@ unfolding begin
 loop-again c =
     let k = c.before.before.before.before.before.before.before.before.step.auto in
     let i = c.before.before.before.before.before.before.before.before.before.before.before.before.before.before.before.loop.invariant in (
-      running-step c.before.before.before.before.before.before.before.before.before.before.before.before.before.before.before.before.before.before.before.before.args.count (act (sheet c.before.before.before.before.before.before.before.before.before.before.before.before.before.before.before.before.before.before.before.before)) (act-stable (sheet c.before.before.before.before.before.before.before.before.before.before.before.before.before.before.before.before.before.before.before.before)) c.before.before.before.before.before.before.before.before.before.before.before.before.before.before.before.before.before.before.before.before.args.budget (begun c.before.before.before.before.before.before.before.before.before.before.before.before.before.before.before.before.before.before.before.before) c.before.before.before.before.before.before.before.before.before.before.before.before.before.before.before.loop.steps (to_z w32 c.before.before.before.before.before.before.before.before.before.before.before.before.before.before.before.loop.zero) _ _ (begin (arraysOf c.before.before.before.before.before.before.before.before.before.before.before.before.before.before.before.loop.x c.before.before.before.before.before.before.before.before.before.before.before.before.before.before.before.loop.y c.before.before.before.before.before.before.before.before.before.before.before.before.before.before.before.loop.z) c.before.before.before.before.before.before.before.before.before.before.before.before.before.before.before.loop.answers c.before.before.before.before.before.before.before.before.before.before.before.before.before.before.before.loop.q c.before.before.before.before.before.before.before.before.before.before.before.before.before.before.before.loop.t) _ i.0 c.before.before.before.before.before.before.before.before.before.before.before.before.before.before.loop-test.true c.before.before.before.before.before.before.before.before.before.before.before.before.before.if1.false c.before.before.before.before.before.before.before.before.step.ensures.0 c.before.before.before.before.before.before.before.before.step.ensures.2 (to_z-of_z w32 c.earlier.result (record { sfits = c.earlier.type-inv }) ∙ c.earlier.ensures),
+      running-step c.before.before.before.before.before.before.before.before.before.before.before.before.before.before.before.before.before.before.before.before.args.count (act (sheet c.before.before.before.before.before.before.before.before.before.before.before.before.before.before.before.before.before.before.before.before)) (act-stable (sheet c.before.before.before.before.before.before.before.before.before.before.before.before.before.before.before.before.before.before.before.before)) c.before.before.before.before.before.before.before.before.before.before.before.before.before.before.before.before.before.before.before.before.args.budget (begun c.before.before.before.before.before.before.before.before.before.before.before.before.before.before.before.before.before.before.before.before) c.before.before.before.before.before.before.before.before.before.before.before.before.before.before.before.loop.steps (to_z w32 c.before.before.before.before.before.before.before.before.before.before.before.before.before.before.before.loop.zero) _ _ (begin (arrays_of c.before.before.before.before.before.before.before.before.before.before.before.before.before.before.before.loop.x c.before.before.before.before.before.before.before.before.before.before.before.before.before.before.before.loop.y c.before.before.before.before.before.before.before.before.before.before.before.before.before.before.before.loop.z) c.before.before.before.before.before.before.before.before.before.before.before.before.before.before.before.loop.answers c.before.before.before.before.before.before.before.before.before.before.before.before.before.before.before.loop.q c.before.before.before.before.before.before.before.before.before.before.before.before.before.before.before.loop.t) _ i.0 c.before.before.before.before.before.before.before.before.before.before.before.before.before.before.loop-test.true c.before.before.before.before.before.before.before.before.before.before.before.before.before.if1.false c.before.before.before.before.before.before.before.before.step.ensures.0 c.before.before.before.before.before.before.before.before.step.ensures.2 (to_z-of_z w32 c.earlier.result (record { sfits = c.earlier.type-inv }) ∙ c.earlier.ensures),
       k.1.1.1.0 ∙ i.1,
       k.1.1.1.1.0 ∙ i.2,
       k.1.1.1.1.1.0 ∙ i.3,
@@ -97,7 +97,7 @@ same-length-8 c = c.before.loop.invariant.4
 
 returns-2 : tie.Need-returns-2 invariant-loop decreases-loop
 unfolding begin
-returns-2 c = let h = running-full c.before.before.before.before.before.before.args.count (act (sheet c.before.before.before.before.before.before)) (act-stable (sheet c.before.before.before.before.before.before)) c.before.before.before.before.before.before.args.budget (begun c.before.before.before.before.before.before) c.before.loop.steps (to_z w32 c.before.loop.zero) (begin (arraysOf c.before.loop.x c.before.loop.y c.before.loop.z) c.before.loop.answers c.before.loop.q c.before.loop.t) c.before.loop.invariant.0 c.loop-test.false in (h.0, h.1, c.before.loop.invariant.0.placed.within, c.before.loop.invariant.5, h.2)
+returns-2 c = let h = running-full c.before.before.before.before.before.before.args.count (act (sheet c.before.before.before.before.before.before)) (act-stable (sheet c.before.before.before.before.before.before)) c.before.before.before.before.before.before.args.budget (begun c.before.before.before.before.before.before) c.before.loop.steps (to_z w32 c.before.loop.zero) (begin (arrays_of c.before.loop.x c.before.loop.y c.before.loop.z) c.before.loop.answers c.before.loop.q c.before.loop.t) c.before.loop.invariant.0 c.loop-test.false in (h.0, h.1, c.before.loop.invariant.0.placed.within, c.before.loop.invariant.5, h.2)
 
 pub go-spec : {M : Type 1} → statement M
 go-spec =

@@ -3,8 +3,8 @@
 use mathlib.Core.Path.{◌≡◌, sym, ap, ◌∙◌}
 use mir.Syntax.{w32}
 use mir.ValLaws.{to_z-of_z}
-use Rattle.definitions.specs.Sheet.{Arrays, array, withArray}
-use Rattle.records.specs.Judgement.{arraysOf}
+use Rattle.definitions.specs.Sheet.{Arrays, array, with_array}
+use Rattle.records.specs.Judgement.{arrays_of}
 use Rattle.sheet.proofs.Strips.{beside-X, beside-Y, beside-Z, lent_fits, comes_back, report-is}
 use native.Mathlib.Omega.{arith}
 use borrow.Author.Rules.{rules}
@@ -12,7 +12,7 @@ use Rattle.sheet.proofs.put.Statement.{statement}
 use Rattle.sheet.proofs.put.Tie as tie
 
 abbrev arrays : tie.Start → Arrays
-arrays s = arraysOf s.args.x.now s.args.y.now s.args.z.now
+arrays s = arrays_of s.args.x.now s.args.y.now s.args.z.now
 
 lend-requires : tie.Need-lend-requires
 unfolding array
@@ -28,7 +28,7 @@ same-length-3 : tie.Need-same-length-3
 same-length-3 c = search rules
 
 returns : tie.Need-returns
-unfolding array withArray
+unfolding array with_array
 returns c =
     let a = beside-X (arrays c.before.before.before.before.before.before.before.before.before.before) c.before.before.before.before.before.before.before.before.before.before.args.a.array c.before.before.before.before.before.before.before.before.before.before.requires.0.a-array (λ e. c.before.before.before.before.before.before.before.before.before.before.requires.0.a-apart (e ∙ sym c.before.before.before.before.before.before.if1.true)) in
     (comes_back c.before.before.before.before.before.before.before.before.before.before.args.call c.before.before.before.before.before.before.before.before.before.before.args.out c.before.before.before.before.before.before.before.before.before.before.args.a c.before.before.before.before.before.before.before.before.before.before.args.b (arrays c.before.before.before.before.before.before.before.before.before.before) c.before.before.before.before.before.before.before.before.before.before.args.from _ 0 c.before.before.before.before.before.before.if1.true _ _ _ a (beside-X (arrays c.before.before.before.before.before.before.before.before.before.before) c.before.before.before.before.before.before.before.before.before.before.args.b.array c.before.before.before.before.before.before.before.before.before.before.requires.0.b-array (λ e. c.before.before.before.before.before.before.before.before.before.before.requires.0.b-apart (e ∙ sym c.before.before.before.before.before.before.if1.true))) c.before.before.lend.ensures.0, to_z-of_z w32 c.before.before.lend.result (record { sfits = c.before.before.lend.type-inv }) ∙ c.before.before.lend.ensures.1 ∙ report-is c.before.before.before.before.before.before.before.before.before.before.args.call c.before.before.before.before.before.before.before.before.before.before.args.a (arrays c.before.before.before.before.before.before.before.before.before.before) _ a)
@@ -47,7 +47,7 @@ same-length-6 : tie.Need-same-length-6
 same-length-6 c = search rules
 
 returns-2 : tie.Need-returns-2
-unfolding array withArray
+unfolding array with_array
 returns-2 c =
     let a = beside-Y (arrays c.before.before.before.before.before.before.before.before.before.before.before) c.before.before.before.before.before.before.before.before.before.before.before.args.a.array c.before.before.before.before.before.before.before.before.before.before.before.requires.0.a-array (λ e. c.before.before.before.before.before.before.before.before.before.before.before.requires.0.a-apart (e ∙ sym c.before.before.before.before.before.before.if2.true)) in
     (comes_back c.before.before.before.before.before.before.before.before.before.before.before.args.call c.before.before.before.before.before.before.before.before.before.before.before.args.out c.before.before.before.before.before.before.before.before.before.before.before.args.a c.before.before.before.before.before.before.before.before.before.before.before.args.b (arrays c.before.before.before.before.before.before.before.before.before.before.before) c.before.before.before.before.before.before.before.before.before.before.before.args.from _ 1 c.before.before.before.before.before.before.if2.true _ _ _ a (beside-Y (arrays c.before.before.before.before.before.before.before.before.before.before.before) c.before.before.before.before.before.before.before.before.before.before.before.args.b.array c.before.before.before.before.before.before.before.before.before.before.before.requires.0.b-array (λ e. c.before.before.before.before.before.before.before.before.before.before.before.requires.0.b-apart (e ∙ sym c.before.before.before.before.before.before.if2.true))) c.before.before.lend2.ensures.0, to_z-of_z w32 c.before.before.lend2.result (record { sfits = c.before.before.lend2.type-inv }) ∙ c.before.before.lend2.ensures.1 ∙ report-is c.before.before.before.before.before.before.before.before.before.before.before.args.call c.before.before.before.before.before.before.before.before.before.before.before.args.a (arrays c.before.before.before.before.before.before.before.before.before.before.before) _ a)
@@ -66,7 +66,7 @@ same-length-9 : tie.Need-same-length-9
 same-length-9 c = search rules
 
 returns-3 : tie.Need-returns-3
-unfolding array withArray
+unfolding array with_array
 returns-3 c =
     let a = beside-Z (arrays c.before.before.before.before.before.before.before.before.before.before.before) c.before.before.before.before.before.before.before.before.before.before.before.args.a.array c.before.before.before.before.before.before.before.before.before.before.before.requires.0.a-array (λ e. c.before.before.before.before.before.before.before.before.before.before.before.requires.0.a-apart (e ∙ sym (let z : c.before.before.before.before.before.before.before.before.before.before.before.args.out.array ≡ 2 = omega (arith, c.before.before.before.before.before.before.before.before.before.before.before.requires.0.out-array, c.before.before.before.before.before.before.before.if1.false, c.before.before.before.before.before.before.if2.false) in z))) in
     (comes_back c.before.before.before.before.before.before.before.before.before.before.before.args.call c.before.before.before.before.before.before.before.before.before.before.before.args.out c.before.before.before.before.before.before.before.before.before.before.before.args.a c.before.before.before.before.before.before.before.before.before.before.before.args.b (arrays c.before.before.before.before.before.before.before.before.before.before.before) c.before.before.before.before.before.before.before.before.before.before.before.args.from _ 2 (let z : c.before.before.before.before.before.before.before.before.before.before.before.args.out.array ≡ 2 = omega (arith, c.before.before.before.before.before.before.before.before.before.before.before.requires.0.out-array, c.before.before.before.before.before.before.before.if1.false, c.before.before.before.before.before.before.if2.false) in z) _ _ _ a (beside-Z (arrays c.before.before.before.before.before.before.before.before.before.before.before) c.before.before.before.before.before.before.before.before.before.before.before.args.b.array c.before.before.before.before.before.before.before.before.before.before.before.requires.0.b-array (λ e. c.before.before.before.before.before.before.before.before.before.before.before.requires.0.b-apart (e ∙ sym (let z : c.before.before.before.before.before.before.before.before.before.before.before.args.out.array ≡ 2 = omega (arith, c.before.before.before.before.before.before.before.before.before.before.before.requires.0.out-array, c.before.before.before.before.before.before.before.if1.false, c.before.before.before.before.before.before.if2.false) in z)))) c.before.before.lend3.ensures.0, to_z-of_z w32 c.before.before.lend3.result (record { sfits = c.before.before.lend3.type-inv }) ∙ c.before.before.lend3.ensures.1 ∙ report-is c.before.before.before.before.before.before.before.before.before.before.before.args.call c.before.before.before.before.before.before.before.before.before.before.before.args.a (arrays c.before.before.before.before.before.before.before.before.before.before.before) _ a)

@@ -10,28 +10,28 @@ use mir.ValLaws.{to_z-of_z, to_z_pos}
 use Rattle.definitions.specs.Check.{nat}
 use Rattle.definitions.specs.Machine.{iterate, made, reported}
 use Rattle.definitions.specs.Sheet.{Sheet, Arrays, index, count, word, records, act}
-use Rattle.definitions.specs.Run.{begin, runRefusal}
-use Rattle.records.specs.Judgement.{sheetOf, arraysOf}
+use Rattle.definitions.specs.Run.{begin, run_refusal}
+use Rattle.records.specs.Judgement.{sheet_of, arrays_of}
 use Rattle.records.proofs.Judgements.{word_small}
 use Rattle.records.proofs.Trailer.{sound-long, sound-room}
-use Rattle.sheet.specs.Lent.{ranOf}
+use Rattle.sheet.specs.Lent.{ran_of}
 use Rattle.sheet.proofs.Ends.{number_small, Passed, passed, run-refused, run-goes, long-enough, placed_at}
 use borrow.Author.Rules.{rules}
 use Rattle.sheet.proofs.run.Statement.{statement}
 use Rattle.sheet.proofs.run.Tie as tie
 
 abbrev sheet : tie.Start → Sheet
-sheet s = sheetOf s.args.sheet.now s.args.scalars.now
+sheet s = sheet_of s.args.sheet.now s.args.scalars.now
 
 abbrev arrays : tie.Start → Arrays
-arrays s = arraysOf s.args.x.now s.args.y.now s.args.z.now
+arrays s = arrays_of s.args.x.now s.args.y.now s.args.z.now
 
-number_is : (c : tie.After-refusal) → c.refusal.result ≡ runRefusal (sheet c.before.before.before.before.before.before.before.before.before) (arrays c.before.before.before.before.before.before.before.before.before) c.before.before.before.before.before.before.before.before.before.args.answers.now c.before.before.before.before.before.before.before.before.before.args.p c.before.before.before.before.before.before.before.before.before.args.s
+number_is : (c : tie.After-refusal) → c.refusal.result ≡ run_refusal (sheet c.before.before.before.before.before.before.before.before.before) (arrays c.before.before.before.before.before.before.before.before.before) c.before.before.before.before.before.before.before.before.before.args.answers.now c.before.before.before.before.before.before.before.before.before.args.p c.before.before.before.before.before.before.before.before.before.args.s
 number_is c =
     c.refusal.ensures
-    ∙ (λ i. runRefusal (sheet c.before.before.before.before.before.before.before.before.before) (arrays c.before.before.before.before.before.before.before.before.before) c.before.before.before.before.before.before.before.before.before.args.answers.now (to_z-of_z w32 c.before.before.before.before.before.before.before.before.before.args.p c.before.before.before.before.before.before.before.before.before.ranges.p i) (to_z-of_z w32 c.before.before.before.before.before.before.before.before.before.args.s c.before.before.before.before.before.before.before.before.before.ranges.s i))
+    ∙ (λ i. run_refusal (sheet c.before.before.before.before.before.before.before.before.before) (arrays c.before.before.before.before.before.before.before.before.before) c.before.before.before.before.before.before.before.before.before.args.answers.now (to_z-of_z w32 c.before.before.before.before.before.before.before.before.before.args.p c.before.before.before.before.before.before.before.before.before.ranges.p i) (to_z-of_z w32 c.before.before.before.before.before.before.before.before.before.args.s c.before.before.before.before.before.before.before.before.before.ranges.s i))
 
-none : (c : tie.Else1) → runRefusal (sheet c.before.before.before.before.before.before.before.before.before.before) (arrays c.before.before.before.before.before.before.before.before.before.before) c.before.before.before.before.before.before.before.before.before.before.args.answers.now c.before.before.before.before.before.before.before.before.before.before.args.p c.before.before.before.before.before.before.before.before.before.before.args.s ≡ 0
+none : (c : tie.Else1) → run_refusal (sheet c.before.before.before.before.before.before.before.before.before.before) (arrays c.before.before.before.before.before.before.before.before.before.before) c.before.before.before.before.before.before.before.before.before.before.args.answers.now c.before.before.before.before.before.before.before.before.before.before.args.p c.before.before.before.before.before.before.before.before.before.before.args.s ≡ 0
 none c = sym (number_is c.before) ∙ (let z : c.before.refusal.result ≡ 0 = omega (arith, c.if1.false) in z)
 
 accepted : (c : tie.Else1) → Passed (sheet c.before.before.before.before.before.before.before.before.before.before) (arrays c.before.before.before.before.before.before.before.before.before.before) c.before.before.before.before.before.before.before.before.before.before.args.answers.now c.before.before.before.before.before.before.before.before.before.before.args.p c.before.before.before.before.before.before.before.before.before.before.args.s
@@ -75,7 +75,7 @@ same-length-4 c = search rules
 returns : tie.Need-returns
 returns c =
     let n : c.before.refusal.result < 2 ^ 31 = omega (arith, number_is c.before, number_small (sheet c.before.before.before.before.before.before.before.before.before.before) (arrays c.before.before.before.before.before.before.before.before.before.before) c.before.before.before.before.before.before.before.before.before.before.args.answers.now c.before.before.before.before.before.before.before.before.before.before.args.p c.before.before.before.before.before.before.before.before.before.before.args.s) in
-    (λ i. ranOf (record { number = to_z_pos w32 c.before.refusal.result n i; p = to_z-of_z w32 c.before.before.before.before.before.before.before.before.before.before.args.p c.before.before.before.before.before.before.before.before.before.before.ranges.p i; s = to_z-of_z w32 c.before.before.before.before.before.before.before.before.before.before.args.s c.before.before.before.before.before.before.before.before.before.before.ranges.s i; steps = 0; zero = negsuc 0 }) (arrays c.before.before.before.before.before.before.before.before.before.before) c.before.before.before.before.before.before.before.before.before.before.args.answers.now)
+    (λ i. ran_of (record { number = to_z_pos w32 c.before.refusal.result n i; p = to_z-of_z w32 c.before.before.before.before.before.before.before.before.before.before.args.p c.before.before.before.before.before.before.before.before.before.before.ranges.p i; s = to_z-of_z w32 c.before.before.before.before.before.before.before.before.before.before.args.s c.before.before.before.before.before.before.before.before.before.before.ranges.s i; steps = 0; zero = negsuc 0 }) (arrays c.before.before.before.before.before.before.before.before.before.before) c.before.before.before.before.before.before.before.before.before.before.args.answers.now)
     ∙ run-refused (sheet c.before.before.before.before.before.before.before.before.before.before) (arrays c.before.before.before.before.before.before.before.before.before.before) c.before.before.before.before.before.before.before.before.before.before.args.answers.now c.before.before.before.before.before.before.before.before.before.before.args.p c.before.before.before.before.before.before.before.before.before.before.args.s c.before.before.before.before.before.before.before.before.before.before.args.budget _ (number_is c.before) c.if1.true
 
 sub-size-at : tie.Need-overflow-sub-size-at

@@ -9,10 +9,10 @@ use mir.Syntax.{w32}
 use mir.ValLaws.{to_z_pos}
 use Rattle.definitions.specs.Call.{extent}
 use Rattle.definitions.specs.Check.{negative, width}
-use Rattle.definitions.specs.Sheet.{Sheet, Arrays, field, width_of, stripDone}
+use Rattle.definitions.specs.Sheet.{Sheet, Arrays, field, width_of, strip_done}
 use Rattle.definitions.specs.Run.{begin}
 use Rattle.definitions.proofs.Strips.{strips-positive}
-use Rattle.records.specs.Judgement.{sheetOf, arraysOf, extentOf}
+use Rattle.records.specs.Judgement.{sheet_of, arrays_of, extent_of}
 use Rattle.records.specs.declared.Judged.{Judged}
 use Rattle.records.proofs.Judgements.{word-is}
 use Rattle.records.proofs.Acts.{number_small, step-rejected, rejected-counts, accepted-step, accepted-strips, none-act, work-act, none-known, none-strip, none-reports, work-known, work-ready, work-begins, strip-small}
@@ -24,10 +24,10 @@ use Rattle.sheet.proofs.step.Statement.{statement}
 use Rattle.sheet.proofs.step.Tie as tie
 
 abbrev sheet : tie.Start → Sheet
-sheet s = sheetOf s.args.sheet.now s.args.scalars.now
+sheet s = sheet_of s.args.sheet.now s.args.scalars.now
 
 abbrev arrays : tie.Start → Arrays
-arrays s = arraysOf s.args.x.now s.args.y.now s.args.z.now
+arrays s = arrays_of s.args.x.now s.args.y.now s.args.z.now
 
 idle-width : (c : tie.After-width) → c.width.result ≡ width_of (sheet c.before.before.before.before.before.before.before.before.before.before) c.before.before.before.before.before.before.before.before.before.before.args.p
 unfolding width_of
@@ -124,7 +124,7 @@ same-length-2 : tie.Need-same-length-2
 same-length-2 c = search rules
 
 returns-2 : tie.Need-returns-2
-unfolding extentOf
+unfolding extent_of
 returns-2 c =
     let h = c.before.before.before.before.before.before.before.v2.given.1 in
     let w = (none-known (sheet c.before.before.before.before.before.before.before.before.before.before.before.before.before.before) c.before.before.before.before.before.before.before.before.before.before.before.before.before.before.args.p (arrays c.before.before.before.before.before.before.before.before.before.before.before.before.before.before) c.before.before.before.before.before.before.before.before.before.judge.result c.before.before.before.before.before.before.before.before.before.judge.ensures.0 _ h).wide in
@@ -132,7 +132,7 @@ returns-2 c =
     let a = accepted-step (sheet c.before.before.before.before.before.before.before.before.before.before.before.before.before.before) c.before.before.before.before.before.before.before.before.before.before.before.before.before.before.args.p (arrays c.before.before.before.before.before.before.before.before.before.before.before.before.before.before) c.before.before.before.before.before.before.before.before.before.judge.result c.before.before.before.before.before.before.before.before.before.judge.ensures.0 _ _ e (none-act (sheet c.before.before.before.before.before.before.before.before.before.before.before.before.before.before) c.before.before.before.before.before.before.before.before.before.before.before.before.before.before.args.p (arrays c.before.before.before.before.before.before.before.before.before.before.before.before.before.before) c.before.before.before.before.before.before.before.before.before.judge.result c.before.before.before.before.before.before.before.before.before.judge.ensures.0 _ h) _ c.before.before.strips.ensures _ _ _ (c.before.advance.ensures.0 _ _ (arrays c.before.before.before.before.before.before.before.before.before.before.before.before.before.before) (arrays c.before.before.before.before.before.before.before.before.before.before.before.before.before.before) (none-strip (sheet c.before.before.before.before.before.before.before.before.before.before.before.before.before.before) c.before.before.before.before.before.before.before.before.before.before.before.before.before.before.args.p (arrays c.before.before.before.before.before.before.before.before.before.before.before.before.before.before) c.before.before.before.before.before.before.before.before.before.judge.result c.before.before.before.before.before.before.before.before.before.judge.ensures.0 _ h c.before.before.before.before.before.before.before.before.before.before.before.before.before.before.args.s) (none-reports (sheet c.before.before.before.before.before.before.before.before.before.before.before.before.before.before) c.before.before.before.before.before.before.before.before.before.before.before.before.before.before.args.p (arrays c.before.before.before.before.before.before.before.before.before.before.before.before.before.before) c.before.before.before.before.before.before.before.before.before.judge.result c.before.before.before.before.before.before.before.before.before.judge.ensures.0 _ h)) in (
       a.0,
       next_small _ _ _ _ c.before.advance.ensures.1
-          (λ b. strip-small _ _ _ _ (omega (arith, e, w)) (subst (λ (v : Judged). extentOf v < 2 ^ 31) h c.before.before.before.before.before.before.before.before.before.judge.ensures.1) (subst (λ n. suc c.before.before.before.before.before.before.before.before.before.before.before.before.before.before.args.s < n) c.before.before.strips.ensures b)) (omega arith),
+          (λ b. strip-small _ _ _ _ (omega (arith, e, w)) (subst (λ (v : Judged). extent_of v < 2 ^ 31) h c.before.before.before.before.before.before.before.before.before.judge.ensures.1) (subst (λ n. suc c.before.before.before.before.before.before.before.before.before.before.before.before.before.before.args.s < n) c.before.before.strips.ensures b)) (omega arith),
       a.1,
     )
 
@@ -149,19 +149,19 @@ same-length-6 : tie.Need-same-length-6
 same-length-6 c = search rules
 
 returns-3 : tie.Need-returns-3
-unfolding extentOf
+unfolding extent_of
 returns-3 c =
     let h = c.before.before.before.before.before.before.before.before.before.before.before.before.before.before.before.before.before.before.before.v3.given.1 in
     let k = work-known (sheet c.before.before.before.before.before.before.before.before.before.before.before.before.before.before.before.before.before.before.before.before.before.before.before.before.before.before) c.before.before.before.before.before.before.before.before.before.before.before.before.before.before.before.before.before.before.before.before.before.before.before.before.before.before.args.p (arrays c.before.before.before.before.before.before.before.before.before.before.before.before.before.before.before.before.before.before.before.before.before.before.before.before.before.before) c.before.before.before.before.before.before.before.before.before.before.before.before.before.before.before.before.before.before.before.before.before.judge.result c.before.before.before.before.before.before.before.before.before.before.before.before.before.before.before.before.before.before.before.before.before.judge.ensures.0 _ h in
     let e = work-width c.before.before.before.before.before.before.before.before.before.before.before.before.before.before.before.before in
     let made = c.before.before.before.before.before.before.before.before.before.before.work.ensures.0
     ∙ record-strip (sheet c.before.before.before.before.before.before.before.before.before.before.before.before.before.before.before.before.before.before.before.before.before.before.before.before.before.before) _ c.before.before.before.before.before.before.before.before.before.before.before.before.before.before.before.before.before.before.before.before.before.before.before.before.before.before.args.p c.before.before.before.before.before.before.before.before.before.before.before.before.before.before.before.before.before.before.before.before.before.before.before.before.before.before.args.at refl c.before.before.before.before.before.before.before.before.before.before.before.before.before.before.before.before.before.before.before.before.before.before.before.before.before.before.requires.0.0.0 (arrays c.before.before.before.before.before.before.before.before.before.before.before.before.before.before.before.before.before.before.before.before.before.before.before.before.before.before) c.before.before.before.before.before.before.before.before.before.before.before.before.before.before.before.before.before.before.before.v3.given.0.0 k.accepts k.call-is (work-ready (sheet c.before.before.before.before.before.before.before.before.before.before.before.before.before.before.before.before.before.before.before.before.before.before.before.before.before.before) c.before.before.before.before.before.before.before.before.before.before.before.before.before.before.before.before.before.before.before.before.before.before.before.before.before.before.args.p (arrays c.before.before.before.before.before.before.before.before.before.before.before.before.before.before.before.before.before.before.before.before.before.before.before.before.before.before) c.before.before.before.before.before.before.before.before.before.before.before.before.before.before.before.before.before.before.before.before.before.judge.result c.before.before.before.before.before.before.before.before.before.before.before.before.before.before.before.before.before.before.before.before.before.judge.ensures.0 _ h) c.before.before.before.before.before.before.before.before.before.before.before.before.before.before.before.before.before.before.before.before.before.before.before.before.before.before.args.s _ (begins c.before.before.before.before.before.before.before.before.before.before.before.before.before.before)
-    ∙ ap (λ w. stripDone (sheet c.before.before.before.before.before.before.before.before.before.before.before.before.before.before.before.before.before.before.before.before.before.before.before.before.before.before) c.before.before.before.before.before.before.before.before.before.before.before.before.before.before.before.before.before.before.before.before.before.before.before.before.before.before.args.p c.before.before.before.before.before.before.before.before.before.before.before.before.before.before.before.before.before.before.before.v3.given.0.0.routine c.before.before.before.before.before.before.before.before.before.before.before.before.before.before.before.before.before.before.before.v3.given.0.0 (c.before.before.before.before.before.before.before.before.before.before.before.before.before.before.before.before.before.before.before.before.before.before.before.before.before.before.args.s * w) (suc c.before.before.before.before.before.before.before.before.before.before.before.before.before.before.before.before.before.before.before.before.before.before.before.before.before.before.args.s * w) (arrays c.before.before.before.before.before.before.before.before.before.before.before.before.before.before.before.before.before.before.before.before.before.before.before.before.before.before)) e in
+    ∙ ap (λ w. strip_done (sheet c.before.before.before.before.before.before.before.before.before.before.before.before.before.before.before.before.before.before.before.before.before.before.before.before.before.before) c.before.before.before.before.before.before.before.before.before.before.before.before.before.before.before.before.before.before.before.before.before.before.before.before.before.before.args.p c.before.before.before.before.before.before.before.before.before.before.before.before.before.before.before.before.before.before.before.v3.given.0.0.routine c.before.before.before.before.before.before.before.before.before.before.before.before.before.before.before.before.before.before.before.v3.given.0.0 (c.before.before.before.before.before.before.before.before.before.before.before.before.before.before.before.before.before.before.before.before.before.before.before.before.before.before.args.s * w) (suc c.before.before.before.before.before.before.before.before.before.before.before.before.before.before.before.before.before.before.before.before.before.before.before.before.before.before.args.s * w) (arrays c.before.before.before.before.before.before.before.before.before.before.before.before.before.before.before.before.before.before.before.before.before.before.before.before.before.before)) e in
     let zero = c.before.before.before.before.before.before.before.before.before.before.work.ensures.1 ∙ ap (λ z. not (negative z)) (record-zero (sheet c.before.before.before.before.before.before.before.before.before.before.before.before.before.before.before.before.before.before.before.before.before.before.before.before.before.before) _ c.before.before.before.before.before.before.before.before.before.before.before.before.before.before.before.before.before.before.before.before.before.before.before.before.before.before.args.p c.before.before.before.before.before.before.before.before.before.before.before.before.before.before.before.before.before.before.before.before.before.before.before.before.before.before.args.at refl c.before.before.before.before.before.before.before.before.before.before.before.before.before.before.before.before.before.before.before.before.before.before.before.before.before.before.requires.0.0.0 (arrays c.before.before.before.before.before.before.before.before.before.before.before.before.before.before.before.before.before.before.before.before.before.before.before.before.before.before) c.before.before.before.before.before.before.before.before.before.before.before.before.before.before.before.before.before.before.before.v3.given.0.0 k.accepts k.call-is (work-ready (sheet c.before.before.before.before.before.before.before.before.before.before.before.before.before.before.before.before.before.before.before.before.before.before.before.before.before.before) c.before.before.before.before.before.before.before.before.before.before.before.before.before.before.before.before.before.before.before.before.before.before.before.before.before.before.args.p (arrays c.before.before.before.before.before.before.before.before.before.before.before.before.before.before.before.before.before.before.before.before.before.before.before.before.before.before) c.before.before.before.before.before.before.before.before.before.before.before.before.before.before.before.before.before.before.before.before.before.judge.result c.before.before.before.before.before.before.before.before.before.before.before.before.before.before.before.before.before.before.before.before.before.judge.ensures.0 _ h)) in
     let a = accepted-step (sheet c.before.before.before.before.before.before.before.before.before.before.before.before.before.before.before.before.before.before.before.before.before.before.before.before.before.before) c.before.before.before.before.before.before.before.before.before.before.before.before.before.before.before.before.before.before.before.before.before.before.before.before.before.before.args.p (arrays c.before.before.before.before.before.before.before.before.before.before.before.before.before.before.before.before.before.before.before.before.before.before.before.before.before.before) c.before.before.before.before.before.before.before.before.before.before.before.before.before.before.before.before.before.before.before.before.before.judge.result c.before.before.before.before.before.before.before.before.before.before.before.before.before.before.before.before.before.before.before.before.before.judge.ensures.0 _ _ e (work-act (sheet c.before.before.before.before.before.before.before.before.before.before.before.before.before.before.before.before.before.before.before.before.before.before.before.before.before.before) c.before.before.before.before.before.before.before.before.before.before.before.before.before.before.before.before.before.before.before.before.before.before.before.before.before.before.args.p (arrays c.before.before.before.before.before.before.before.before.before.before.before.before.before.before.before.before.before.before.before.before.before.before.before.before.before.before) c.before.before.before.before.before.before.before.before.before.before.before.before.before.before.before.before.before.before.before.before.before.judge.result c.before.before.before.before.before.before.before.before.before.before.before.before.before.before.before.before.before.before.before.before.before.judge.ensures.0 _ h) _ c.before.before.strips2.ensures _ _ _ (c.before.advance2.ensures.0 _ _ (arrays c.before.before.before.before.before.before.before.before.before.before.before.before.before.before.before.before.before.before.before.before.before.before.before.before.before.before) _ made zero) in (
       a.0,
       next_small _ _ _ _ c.before.advance2.ensures.1
-          (λ b. strip-small _ _ _ _ (omega (arith, e, k.wide)) (subst (λ (v : Judged). extentOf v < 2 ^ 31) h c.before.before.before.before.before.before.before.before.before.before.before.before.before.before.before.before.before.before.before.before.before.judge.ensures.1) (subst (λ n. suc c.before.before.before.before.before.before.before.before.before.before.before.before.before.before.before.before.before.before.before.before.before.before.before.before.before.before.args.s < n) c.before.before.strips2.ensures b)) (omega arith),
+          (λ b. strip-small _ _ _ _ (omega (arith, e, k.wide)) (subst (λ (v : Judged). extent_of v < 2 ^ 31) h c.before.before.before.before.before.before.before.before.before.before.before.before.before.before.before.before.before.before.before.before.before.judge.ensures.1) (subst (λ n. suc c.before.before.before.before.before.before.before.before.before.before.before.before.before.before.before.before.before.before.before.before.before.before.before.before.before.before.args.s < n) c.before.before.strips2.ensures b)) (omega arith),
       a.1,
     )
 

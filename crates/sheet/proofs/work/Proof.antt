@@ -7,9 +7,9 @@ use mir.Syntax.{w32}
 use mir.ValLaws.{to_z-of_z}
 use Rattle.definitions.specs.Check.{negative}
 use Rattle.definitions.specs.Sheet.{output}
-use Rattle.records.specs.Judgement.{arraysOf, second, part_at}
+use Rattle.records.specs.Judgement.{arrays_of, second, part_at}
 use Rattle.arrays.specs.Choice.{least}
-use Rattle.sheet.specs.Lent.{stripAt, zeroAt}
+use Rattle.sheet.specs.Lent.{strip_at, zero_at}
 use Rattle.sheet.proofs.Strips.{lends-same}
 use native.Mathlib.Omega.{arith}
 use borrow.Author.Rules.{rules}
@@ -78,9 +78,9 @@ returns : tie.Need-returns
 returns c =
     let d = c.before.before.before.before.before.before.before.before.before.before.before.smaller.ensures.3 ∙ ap (λ d. least c.before.before.before.before.before.before.before.before.before.before.before.before.before.before.before.before.before.before.before.before.before.args.w (d - c.before.before.before.before.before.before.before.before.before.before.before.before.before.before.before.before.before.before.before.before.before.args.s * c.before.before.before.before.before.before.before.before.before.before.before.before.before.before.before.before.before.before.before.before.before.args.w)) c.before.before.before.before.before.before.before.before.before.before.before.before.extent.ensures.0 in (
       c.before.before.before.before.before.before.before.put.ensures.0
-          ∙ (λ i. stripAt c.before.before.before.before.before.before.before.before.before.before.before.before.before.before.before.before.before.before.before.before.before.args.call (output-at c.before.before.before.before.before.before.before.before.before.before.before.before.before.before.before.before i) (c.before.before.before.before.before.before.before.before.before.before.before.before.before.before.before.part-at2.ensures i) (second_at c.before.before.before.before.before.before.before.before.before.before.before.before.before i) (c.before.before.before.before.before.before.before.before.before.before.before.before.before.before.before.before.before.before.before.before.before.args.s * c.before.before.before.before.before.before.before.before.before.before.before.before.before.before.before.before.before.before.before.before.before.args.w) (c.before.before.before.before.before.before.before.before.before.before.before.before.before.before.before.before.before.before.before.before.before.args.s * c.before.before.before.before.before.before.before.before.before.before.before.before.before.before.before.before.before.before.before.before.before.args.w + d i)
-          (arraysOf c.before.before.before.before.before.before.before.before.before.before.before.before.before.before.before.before.before.before.before.before.before.args.x.now c.before.before.before.before.before.before.before.before.before.before.before.before.before.before.before.before.before.before.before.before.before.args.y.now c.before.before.before.before.before.before.before.before.before.before.before.before.before.before.before.before.before.before.before.before.before.args.z.now)),
-      ap not (c.negative.ensures ∙ ap negative (to_z-of_z w32 c.before.before.before.before.before.before.before.put.result (record { sfits = c.before.before.before.before.before.before.before.put.ok }) ∙ c.before.before.before.before.before.before.before.put.ensures.1 ∙ ap (λ a. zeroAt c.before.before.before.before.before.before.before.before.before.before.before.before.before.before.before.before.before.before.before.before.before.args.call a (arraysOf c.before.before.before.before.before.before.before.before.before.before.before.before.before.before.before.before.before.before.before.before.before.args.x.now c.before.before.before.before.before.before.before.before.before.before.before.before.before.before.before.before.before.before.before.before.before.args.y.now c.before.before.before.before.before.before.before.before.before.before.before.before.before.before.before.before.before.before.before.before.before.args.z.now)) c.before.before.before.before.before.before.before.before.before.before.before.before.before.before.before.part-at2.ensures)),
+          ∙ (λ i. strip_at c.before.before.before.before.before.before.before.before.before.before.before.before.before.before.before.before.before.before.before.before.before.args.call (output-at c.before.before.before.before.before.before.before.before.before.before.before.before.before.before.before.before i) (c.before.before.before.before.before.before.before.before.before.before.before.before.before.before.before.part-at2.ensures i) (second_at c.before.before.before.before.before.before.before.before.before.before.before.before.before i) (c.before.before.before.before.before.before.before.before.before.before.before.before.before.before.before.before.before.before.before.before.before.args.s * c.before.before.before.before.before.before.before.before.before.before.before.before.before.before.before.before.before.before.before.before.before.args.w) (c.before.before.before.before.before.before.before.before.before.before.before.before.before.before.before.before.before.before.before.before.before.args.s * c.before.before.before.before.before.before.before.before.before.before.before.before.before.before.before.before.before.before.before.before.before.args.w + d i)
+          (arrays_of c.before.before.before.before.before.before.before.before.before.before.before.before.before.before.before.before.before.before.before.before.before.args.x.now c.before.before.before.before.before.before.before.before.before.before.before.before.before.before.before.before.before.before.before.before.before.args.y.now c.before.before.before.before.before.before.before.before.before.before.before.before.before.before.before.before.before.before.before.before.before.args.z.now)),
+      ap not (c.negative.ensures ∙ ap negative (to_z-of_z w32 c.before.before.before.before.before.before.before.put.result (record { sfits = c.before.before.before.before.before.before.before.put.ok }) ∙ c.before.before.before.before.before.before.before.put.ensures.1 ∙ ap (λ a. zero_at c.before.before.before.before.before.before.before.before.before.before.before.before.before.before.before.before.before.before.before.before.before.args.call a (arrays_of c.before.before.before.before.before.before.before.before.before.before.before.before.before.before.before.before.before.before.before.before.before.args.x.now c.before.before.before.before.before.before.before.before.before.before.before.before.before.before.before.before.before.before.before.before.before.args.y.now c.before.before.before.before.before.before.before.before.before.before.before.before.before.before.before.before.before.before.before.before.before.args.z.now)) c.before.before.before.before.before.before.before.before.before.before.before.before.before.before.before.part-at2.ensures)),
     )
 
 pub work-spec : {M : Type 1} → statement M

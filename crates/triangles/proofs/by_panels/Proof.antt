@@ -10,7 +10,7 @@ use Rattle.arrays.specs.Update.{update, entries, only, trapezoid}
 use Rattle.arrays.proofs.UpdateLaws.{length-update}
 use Rattle.packing.specs.Factor.{entry_of}
 use Rattle.packing.proofs.FactorLaws.{upward, along-up, turn_up}
-use Rattle.direct.specs.Product.{fromColumn, partly, product}
+use Rattle.direct.specs.Product.{from_column, partly, product}
 use Rattle.direct.proofs.DirectLaws.{masked-none}
 use Rattle.kernel.proofs.PanelLaws.{masked-next}
 use Rattle.arrays.proofs.TrapezoidLaws.{within}
@@ -20,7 +20,7 @@ use Rattle.triangles.proofs.by_panels.Tie as tie
 abbrev invariant-loop : tie.invariant-loop
 invariant-loop lower c₀ ld n cols from k fa a lda fb b ldb alpha r u₀ t₀ l₀ c u t l =
     (l ≤ k) × (length c ≡ length c₀) × (length u ≡ length u₀) × (length t ≡ length t₀)
-    × (c ≡ update (entries ld (only (trapezoid lower from n cols) (partly alpha (entry_of fa a lda) (fromColumn from (entry_of fb b ldb)) false k l))) c₀)
+    × (c ≡ update (entries ld (only (trapezoid lower from n cols) (partly alpha (entry_of fa a lda) (from_column from (entry_of fb b ldb)) false k l))) c₀)
 
 abbrev decreases-loop : tie.decreases-loop
 decreases-loop lower c₀ ld n cols from k fa a lda fb b ldb alpha r u₀ t₀ l₀ c u t l = k - l

@@ -10,7 +10,7 @@ use lib.ListN.{length}
 use borrow.Author.Rules.{rules}
 use Rattle.arrays.proofs.PartLaws.{tail-length, column-room}
 use Rattle.packing.specs.Factor.{Matrix}
-use Rattle.kernel.specs.Panels.{halfPacked}
+use Rattle.kernel.specs.Panels.{half_packed}
 use Rattle.arrays.proofs.TrapezoidLaws.{rest-fits, diagonal-and-rest}
 use Rattle.triangles.proofs.panel.Statement.{statement}
 use Rattle.triangles.proofs.panel.Tie as tie
@@ -37,8 +37,8 @@ parts c =
     }
 
 -- the product in the rows from i₀ on
-at_rows : (n : ℕ) (t : List Float) (M : Matrix) (i₀ i j : ℕ) (x : Float) → halfPacked n t (λ i q. M (i₀ + i) q) i j x ≡ halfPacked n t M (i₀ + i) j x
-unfolding halfPacked
+at_rows : (n : ℕ) (t : List Float) (M : Matrix) (i₀ i j : ℕ) (x : Float) → half_packed n t (λ i q. M (i₀ + i) q) i j x ≡ half_packed n t M (i₀ + i) j x
+unfolding half_packed
 at_rows n t M i₀ i j x = refl
 
 add-end : tie.Need-overflow-add-end

@@ -11,7 +11,7 @@ use Rattle.arrays.proofs.PartLaws.{tail-length, column-room}
 use Rattle.arrays.proofs.UpdateLaws.{length-update}
 use Rattle.packing.specs.Factor.{entry_of, along}
 use Rattle.packing.proofs.FactorLaws.{upward, up_from}
-use Rattle.kernel.specs.Panels.{halfPacked}
+use Rattle.kernel.specs.Panels.{half_packed}
 use Rattle.triangles.proofs.SlabLaws.{no_rows, slab-more}
 use Rattle.triangles.proofs.square.Statement.{statement}
 use Rattle.triangles.proofs.square.Tie as tie
@@ -19,7 +19,7 @@ use Rattle.triangles.proofs.square.Tie as tie
 abbrev invariant-loop : tie.invariant-loop
 invariant-loop lower c₀ ld order terms fa a lda i0 l0 r u₀ t x₀ c u x =
     (x ≤ order) × (length c ≡ length c₀) × (length u ≡ length u₀)
-    × (c ≡ update (entries ld (only (corner lower x order) (halfPacked terms t (λ i q. entry_of fa a lda (i0 + i) (along false l0 q))))) c₀)
+    × (c ≡ update (entries ld (only (corner lower x order) (half_packed terms t (λ i q. entry_of fa a lda (i0 + i) (along false l0 q))))) c₀)
 
 abbrev decreases-loop : tie.decreases-loop
 decreases-loop lower c₀ ld order terms fa a lda i0 l0 r u₀ t x₀ c u x = order - x

@@ -10,7 +10,7 @@ use lib.ListN.{length}
 use borrow.Author.Rules.{rules}
 use Rattle.arrays.proofs.PartLaws.{tail-length, column-room}
 use Rattle.packing.specs.Factor.{Matrix, entry_of}
-use Rattle.direct.specs.Product.{fromRow, fromColumn, partly, product}
+use Rattle.direct.specs.Product.{from_row, from_column, partly, product}
 use Rattle.arrays.proofs.TrapezoidLaws.{rest-fits, diagonal-alone, diagonal-and-rest}
 use Rattle.triangles.proofs.tiny.Statement.{statement}
 use Rattle.triangles.proofs.tiny.Tie as tie
@@ -37,7 +37,7 @@ parts c =
 
 -- the product in the rows from i₀ on
 at_rows : (alpha : Float) (L R : Matrix) (k i₀ g i j : ℕ) (x : Float)
-    → product alpha (fromRow i₀ L) (fromColumn g R) false k i j x ≡ product alpha L (fromColumn g R) false k (i₀ + i) j x
+    → product alpha (from_row i₀ L) (from_column g R) false k i j x ≡ product alpha L (from_column g R) false k (i₀ + i) j x
 unfolding product partly
 at_rows alpha L R k i₀ g i j x = refl
 

@@ -5,10 +5,10 @@ use mathlib.Core.Path.{◌≡◌, sym, ◌∙◌}
 use Prim.Native.Nat.{◌<◌}
 use lib.ListN.{length}
 use Rattle.floats.specs.Operations.{1f}
-use Rattle.definitions.specs.Number.{isZero}
-use Rattle.definitions.specs.Storage.{withDiagonal}
+use Rattle.definitions.specs.Number.{is_zero}
+use Rattle.definitions.specs.Storage.{with_diagonal}
 use Rattle.packing.specs.Factor.{entry_of}
-use Rattle.forms.specs.Forms.{opForm}
+use Rattle.forms.specs.Forms.{op_form}
 use Rattle.lines.proofs.GridLaws.{some-ld}
 use Rattle.trmm.proofs.StripLaws.{lines-cleared, lines-summed}
 use borrow.Author.Rules.{rules}
@@ -19,7 +19,7 @@ use Rattle.trmm.proofs.multiply_lines.Tie as tie
 wide : (c : tie.Start) → 0 < c.args.ld
 wide c = let g = c.args in some-ld g.left g.ld g.m g.lines (length g.b.now) (omega (arith, c.requires.0)) (omega (arith, c.requires.0)) c.requires.1.0
 
-not-zero : (c : tie.Else1) → isZero c.before.before.before.before.args.alpha ≡ false
+not-zero : (c : tie.Else1) → is_zero c.before.before.before.before.args.alpha ≡ false
 not-zero c = sym c.before.is_zero.ensures ∙ c.if1.false
 
 is-zero-requires : tie.Need-is-zero-requires
@@ -33,7 +33,7 @@ same_length c = search rules
 
 returns : tie.Need-returns
 returns c = let g = c.before.before.before.before.before.before.before.before.args in
-    lines-cleared g.left g.after g.alpha (withDiagonal 1f g.diag (entry_of (opForm g.t) g.a.now g.lda)) g.ld g.m g.lines (wide c.before.before.before.before.before.before.before.before) g.b.now _ (sym c.before.before.before.before.before.is_zero.ensures ∙ c.before.before.before.before.if1.true) c.before.before.clear_lines.ensures
+    lines-cleared g.left g.after g.alpha (with_diagonal 1f g.diag (entry_of (op_form g.t) g.a.now g.lda)) g.ld g.m g.lines (wide c.before.before.before.before.before.before.before.before) g.b.now _ (sym c.before.before.before.before.before.is_zero.ensures ∙ c.before.before.before.before.if1.true) c.before.before.clear_lines.ensures
 
 factor-requires : tie.Need-factor-requires
 factor-requires c κs = search rules
@@ -49,7 +49,7 @@ same-length-2 c = search rules
 
 returns-2 : tie.Need-returns-2
 returns-2 c = let g = c.before.before.before.before.before.before.before.before.before.before.before.args in
-    lines-summed g.left g.after g.alpha (withDiagonal 1f g.diag (entry_of (opForm g.t) g.a.now g.lda)) g.ld g.m g.lines (wide c.before.before.before.before.before.before.before.before.before.before.before) g.b.now _ (not-zero c.before.before.before.before.before.before.before) _ c.before.before.before.before.before.before.factor.ensures c.before.before.sum-elements.ensures
+    lines-summed g.left g.after g.alpha (with_diagonal 1f g.diag (entry_of (op_form g.t) g.a.now g.lda)) g.ld g.m g.lines (wide c.before.before.before.before.before.before.before.before.before.before.before) g.b.now _ (not-zero c.before.before.before.before.before.before.before) _ c.before.before.before.before.before.before.factor.ensures c.before.before.sum-elements.ensures
 
 sum-lines-requires : tie.Need-sum-lines-requires
 sum-lines-requires c κs = (omega (arith, c.before.before.before.before.before.before.before.before.requires.0), (c.before.before.before.before.before.before.before.before.requires.1.0, c.before.before.before.before.before.before.before.before.requires.1.1 (not-zero c.before.before.before.before)))
@@ -59,7 +59,7 @@ same-length-3 c = search rules
 
 returns-3 : tie.Need-returns-3
 returns-3 c = let g = c.before.before.before.before.before.before.before.before.before.before.before.args in
-    lines-summed g.left g.after g.alpha (withDiagonal 1f g.diag (entry_of (opForm g.t) g.a.now g.lda)) g.ld g.m g.lines (wide c.before.before.before.before.before.before.before.before.before.before.before) g.b.now _ (not-zero c.before.before.before.before.before.before.before) _ c.before.before.before.before.before.before.factor.ensures c.before.before.sum-lines.ensures
+    lines-summed g.left g.after g.alpha (with_diagonal 1f g.diag (entry_of (op_form g.t) g.a.now g.lda)) g.ld g.m g.lines (wide c.before.before.before.before.before.before.before.before.before.before.before) g.b.now _ (not-zero c.before.before.before.before.before.before.before) _ c.before.before.before.before.before.before.factor.ensures c.before.before.sum-lines.ensures
 
 pub multiply-lines-spec : {M : Type 1} → statement M
 multiply-lines-spec =

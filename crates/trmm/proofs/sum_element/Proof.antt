@@ -2,7 +2,7 @@
 -- Assumes nothing.
 use Rattle.packing.specs.Factor.{entry_of, along}
 use Rattle.packing.proofs.FactorLaws.{upward}
-use Rattle.forms.specs.Forms.{opForm}
+use Rattle.forms.specs.Forms.{op_form}
 use Rattle.lines.proofs.TriangleLaws.{run_room}
 use Rattle.trmm_diagonal.proofs.DiagonalLaws.{diagonal-index}
 use Rattle.trmm.proofs.ElementLaws.{element-summed}
@@ -47,7 +47,7 @@ same_length c = search rules
 
 returns : tie.Need-returns
 returns c = let g = c.before.before.before.before.before.before.before.before.before.before.before.args in
-    element-summed g.left g.alpha g.diag (entry_of (opForm g.t) g.a.now g.lda) g.i g.after g.m c.before.before.before.before.before.before.before.before.before.before.before.requires.0 (c.before.before.before.before.before.before.before.before.pivot.ensures g.t) c.before.before.before.before.start_of_lem.ensures c.before.before.before.end_of_lem.ensures c.before.before.before.before.before.before.before.pick.ensures c.before.before.before.before.before.before.pick2.ensures g.ld g.lines g.b.now _ c.before.before.element.ensures
+    element-summed g.left g.alpha g.diag (entry_of (op_form g.t) g.a.now g.lda) g.i g.after g.m c.before.before.before.before.before.before.before.before.before.before.before.requires.0 (c.before.before.before.before.before.before.before.before.pivot.ensures g.t) c.before.before.before.before.start_of_lem.ensures c.before.before.before.end_of_lem.ensures c.before.before.before.before.before.before.before.pick.ensures c.before.before.before.before.before.before.pick2.ensures g.ld g.lines g.b.now _ c.before.before.element.ensures
 
 pub sum-element-spec : {M : Type 1} → statement M
 sum-element-spec =

@@ -8,9 +8,9 @@ use Rattle.arrays.specs.Update.{update}
 use Rattle.arrays.proofs.UpdateLaws.{length-update}
 use Rattle.floats.specs.Array.{at}
 use Rattle.floats.specs.Operations.{1f}
-use Rattle.definitions.specs.Storage.{withDiagonal}
+use Rattle.definitions.specs.Storage.{with_diagonal}
 use Rattle.packing.specs.Factor.{entry_of}
-use Rattle.forms.specs.Forms.{opForm}
+use Rattle.forms.specs.Forms.{op_form}
 use Rattle.lines.specs.Lines.{cell, grid}
 use Rattle.lines.proofs.GridLaws.{some-ld}
 use Rattle.trmm_diagonal.specs.Terms.{done}
@@ -24,7 +24,7 @@ use Rattle.trmm.proofs.sum_lines.Tie as tie
 
 abbrev invariant-loop : tie.invariant-loop
 invariant-loop left after diag alpha t a lda b₀ ld m lines r k₀ b k = (k ≤ m) × (length b ≡ length b₀)
-    × (b ≡ update (grid left ld m lines (λ q l e. if done after m k q then sum_of left after alpha (withDiagonal 1f diag (entry_of (opForm t) a lda)) m (λ p. at b₀ (cell left ld p l)) q else e)) b₀)
+    × (b ≡ update (grid left ld m lines (λ q l e. if done after m k q then sum_of left after alpha (with_diagonal 1f diag (entry_of (op_form t) a lda)) m (λ p. at b₀ (cell left ld p l)) q else e)) b₀)
 
 abbrev decreases-loop : tie.decreases-loop
 decreases-loop left after diag alpha t a lda b₀ ld m lines r k₀ b k = m - k

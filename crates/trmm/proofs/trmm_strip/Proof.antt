@@ -3,7 +3,7 @@
 use mathlib.Core.Path.{refl}
 use native.Mathlib.Omega.{arith}
 use lib.ListN.{length}
-use Rattle.definitions.specs.Call.{inPlace}
+use Rattle.definitions.specs.Call.{in_place}
 use Rattle.definitions.specs.declared.Routine.TheVariants.{Trmm}
 use Rattle.lines.proofs.StripLaws.{left-fits, right-fits}
 use Rattle.trmm.proofs.StripLaws.{strip-left, strip-right}
@@ -30,7 +30,7 @@ enum_told : tie.Need-enum-told
 enum_told c = search rules
 
 multiply-lines-requires : tie.Need-multiply-lines-requires
-unfolding inPlace
+unfolding in_place
 multiply-lines-requires c κs =
     let g = c.before.before.before.before.before.before.before.before.before.before.args in
     let f = c.before.before.before.before.before.before.before.before.before.before.requires.0.1 in
@@ -42,7 +42,7 @@ enum-told-2 : tie.Need-enum-told-2
 enum-told-2 c = search rules
 
 multiply-lines-requires-2 : tie.Need-multiply-lines-requires-2
-unfolding inPlace
+unfolding in_place
 multiply-lines-requires-2 c κs =
     let g = c.before.before.before.before.before.before.before.before.before.before.args in
     let f = c.before.before.before.before.before.before.before.before.before.before.requires.0.1 in
@@ -54,7 +54,7 @@ same_length : tie.Need-same-length
 same_length c = search rules
 
 returns : tie.Need-returns
-unfolding inPlace
+unfolding in_place
 returns c =
     let g = c.before.before.before.before.before.before.before.before.before.before.before.before.before.args in
     let f = c.before.before.before.before.before.before.before.before.before.before.before.before.before.requires.0.1 in
@@ -66,7 +66,7 @@ same-length-2 : tie.Need-same-length-2
 same-length-2 c = search rules
 
 returns-2 : tie.Need-returns-2
-unfolding inPlace
+unfolding in_place
 returns-2 c =
     let g = c.before.before.before.before.before.before.before.before.before.before.before.before.before.args in
     let f = c.before.before.before.before.before.before.before.before.before.before.before.before.before.requires.0.1 in

@@ -8,7 +8,7 @@ use Rattle.arrays.specs.Choice.{if◌then◌else◌}
 use Rattle.arrays.specs.Update.{update}
 use Rattle.arrays.proofs.UpdateLaws.{length-update}
 use Rattle.lines.specs.Lines.{grid}
-use Rattle.trmm_diagonal.specs.Terms.{heldTerms, done}
+use Rattle.trmm_diagonal.specs.Terms.{held_terms, done}
 use Rattle.trmm_diagonal.proofs.DoneLaws.{none_done, more-done, all_done}
 use borrow.Author.Rules.{rules}
 use native.Mathlib.Omega.{arith}
@@ -17,7 +17,7 @@ use Rattle.trmm_diagonal.proofs.groups.Tie as tie
 
 abbrev invariant-loop : tie.invariant-loop
 invariant-loop after s₀ lines n u v j₀ s j = (j ≤ n) × (length s ≡ length s₀)
-    × (s ≡ update (grid false 64 n lines (λ q l e. if done true n j q then heldTerms after n u v q l e else e)) s₀)
+    × (s ≡ update (grid false 64 n lines (λ q l e. if done true n j q then held_terms after n u v q l e else e)) s₀)
 
 abbrev decreases-loop : tie.decreases-loop
 decreases-loop after s₀ lines n u v j₀ s j = n - j

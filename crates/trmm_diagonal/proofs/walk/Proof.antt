@@ -8,7 +8,7 @@ use Rattle.arrays.specs.Update.{update}
 use Rattle.arrays.proofs.UpdateLaws.{length-update}
 use Rattle.arrays.proofs.PartLaws.{tail-length}
 use Rattle.lines.specs.Lines.{grid}
-use Rattle.trmm_diagonal.specs.Terms.{heldTerms}
+use Rattle.trmm_diagonal.specs.Terms.{held_terms}
 use Rattle.trmm_diagonal.proofs.WalkLaws.{Span, span_of, walk_none, walk_more}
 use borrow.Author.Rules.{rules}
 use native.Mathlib.Omega.{arith}
@@ -16,7 +16,7 @@ use Rattle.trmm_diagonal.proofs.walk.Statement.{statement}
 use Rattle.trmm_diagonal.proofs.walk.Tie as tie
 
 abbrev invariant-loop : tie.invariant-loop
-invariant-loop after s₀ lines n u v j₀ s j = (j ≤ n) × (length s ≡ length s₀) × (s ≡ update (grid false 64 j lines (λ q l e. heldTerms after n u v q l e)) s₀)
+invariant-loop after s₀ lines n u v j₀ s j = (j ≤ n) × (length s ≡ length s₀) × (s ≡ update (grid false 64 j lines (λ q l e. held_terms after n u v q l e)) s₀)
 
 abbrev decreases-loop : tie.decreases-loop
 decreases-loop after s₀ lines n u v j₀ s j = n - j

@@ -1,7 +1,7 @@
 -- `ends_by_zero` meets its contract, by cases on the diagonal.
 -- Assumes nothing.
 use lib.Ieee.{of_bits}
-use Rattle.definitions.specs.Element.{byZero}
+use Rattle.definitions.specs.Element.{by_zero}
 use borrow.Author.Rules.{rules}
 use Rattle.trsm.proofs.ends_by_zero.Statement.{statement}
 use Rattle.trsm.proofs.ends_by_zero.Tie as tie
@@ -19,11 +19,11 @@ shared-slice-read-result : tie.Need-shared-slice-read-result
 shared-slice-read-result c = search rules
 
 returns : tie.Need-returns
-unfolding byZero
+unfolding by_zero
 returns c = rw c.enum_told.given.1
 
 returns-2 : tie.Need-returns-2
-unfolding byZero of_bits
+unfolding by_zero of_bits
 returns-2 c = rw c.before.enum-told2.given.1
 
 pub ends-by-zero-spec : {M : Type 1} → statement M

@@ -5,7 +5,7 @@ use Prim.Native.Nat.{◌+◌, ◌<◌}
 use native.Mathlib.Omega.{arith}
 use Rattle.arrays.proofs.PartLaws.{tail-length, column-room, columns-room}
 use Rattle.packing.specs.Factor.{entry_of}
-use Rattle.forms.specs.Forms.{opForm}
+use Rattle.forms.specs.Forms.{op_form}
 use Rattle.lines.proofs.GridLaws.{some-ld}
 use Rattle.trsm.proofs.BlockStepLaws.{copied-step, lent-step}
 use Rattle.trsm.proofs.ReportLaws.{zero-block}
@@ -46,9 +46,9 @@ same_length c = search rules
 returns : tie.Need-returns
 returns c =
     let g = c.before.before.before.before.before.before.before.before.before.before.before.before.before.before.before.before.before.args in (
-      copied-step g.left g.down g.ld g.m g.lines g.diag (entry_of (opForm g.t) g.a.now g.lda) g.p g.n c.before.before.before.before.before.before.before.before.before.before.before.before.before.before.least.result g.b.now (some-ld g.left g.ld g.m g.lines _ (omega (arith, c.before.before.before.before.before.before.before.before.before.before.before.before.before.before.before.before.before.requires)) (omega (arith, c.before.before.before.before.before.before.before.before.before.before.before.before.before.before.before.before.before.requires)) c.before.before.before.before.before.before.before.before.before.before.before.before.before.before.before.before.before.requires.1.0) (omega (arith, c.before.before.before.before.before.before.before.before.before.before.before.before.before.before.before.before.before.requires)) c.before.before.before.before.before.before.before.before.before.before.before.before.before.before.least.ensures.0 c.before.before.before.before.before.before.before.before.before.before.before.before.before.before.before.before.before.requires.1.0
+      copied-step g.left g.down g.ld g.m g.lines g.diag (entry_of (op_form g.t) g.a.now g.lda) g.p g.n c.before.before.before.before.before.before.before.before.before.before.before.before.before.before.least.result g.b.now (some-ld g.left g.ld g.m g.lines _ (omega (arith, c.before.before.before.before.before.before.before.before.before.before.before.before.before.before.before.before.before.requires)) (omega (arith, c.before.before.before.before.before.before.before.before.before.before.before.before.before.before.before.before.before.requires)) c.before.before.before.before.before.before.before.before.before.before.before.before.before.before.before.before.before.requires.1.0) (omega (arith, c.before.before.before.before.before.before.before.before.before.before.before.before.before.before.before.before.before.requires)) c.before.before.before.before.before.before.before.before.before.before.before.before.before.before.least.ensures.0 c.before.before.before.before.before.before.before.before.before.before.before.before.before.before.before.before.before.requires.1.0
           _ _ _ _ (omega (arith, c.before.before.before.before.before.before.before.before.before.before.before.before.before.before.before.before.before.requires), omega (arith, c.before.before.before.before.before.before.before.before.before.before.before.before.before.before.before.before.before.requires)) c.before.before.before.before.before.before.before.before.before.before.take.ensures c.before.before.before.before.before.before.before.solve-across.ensures.0 c.before.before.before.put.ensures,
-      zero-block g.down g.m g.diag (entry_of (opForm g.t) g.a.now g.lda) g.p g.n c.before.before.before.before.before.before.before.before.before.before.before.before.before.before.least.result c.before.before.before.before.before.before.before.solve-across.result _ (omega (arith, c.before.before.before.before.before.before.before.before.before.before.before.before.before.before.before.before.before.requires)) c.before.before.before.before.before.before.before.before.before.before.before.before.before.before.least.ensures.0 c.before.before.before.before.before.before.before.before.before.before.before.before.before.before.least.ensures.1 c.before.before.before.before.before.before.before.solve-across.ensures.1 c.lower.ensures,
+      zero-block g.down g.m g.diag (entry_of (op_form g.t) g.a.now g.lda) g.p g.n c.before.before.before.before.before.before.before.before.before.before.before.before.before.before.least.result c.before.before.before.before.before.before.before.solve-across.result _ (omega (arith, c.before.before.before.before.before.before.before.before.before.before.before.before.before.before.before.before.before.requires)) c.before.before.before.before.before.before.before.before.before.before.before.before.before.before.least.ensures.0 c.before.before.before.before.before.before.before.before.before.before.before.before.before.before.least.ensures.1 c.before.before.before.before.before.before.before.solve-across.ensures.1 c.lower.ensures,
     )
 
 -- the block's first element is within its line
@@ -86,9 +86,9 @@ returns-2 : tie.Need-returns-2
 returns-2 c =
     let g = c.before.before.before.before.before.before.before.before.before.args in
     let room = rw c.before.before.before.before.before.if1.false at c.before.before.before.before.before.before.before.before.before.requires.1.0 in (
-      lent-step g.left g.down g.ld g.m g.lines g.diag (entry_of (opForm g.t) g.a.now g.lda) g.p g.n c.before.before.before.before.before.before.least.result g.b.now (some-ld g.left g.ld g.m g.lines _ (omega (arith, c.before.before.before.before.before.before.before.before.before.requires)) (omega (arith, c.before.before.before.before.before.before.before.before.before.requires)) c.before.before.before.before.before.before.before.before.before.requires.1.0) (omega (arith, c.before.before.before.before.before.before.before.before.before.requires)) c.before.before.before.before.before.before.least.ensures.0 c.before.before.before.before.before.before.before.before.before.requires.1.0
+      lent-step g.left g.down g.ld g.m g.lines g.diag (entry_of (op_form g.t) g.a.now g.lda) g.p g.n c.before.before.before.before.before.before.least.result g.b.now (some-ld g.left g.ld g.m g.lines _ (omega (arith, c.before.before.before.before.before.before.before.before.before.requires)) (omega (arith, c.before.before.before.before.before.before.before.before.before.requires)) c.before.before.before.before.before.before.before.before.before.requires.1.0) (omega (arith, c.before.before.before.before.before.before.before.before.before.requires)) c.before.before.before.before.before.before.least.ensures.0 c.before.before.before.before.before.before.before.before.before.requires.1.0
           _ _ c.before.before.before.before.before.if1.false refl (omega (arith, room, column-room c.before.before.before.before.before.before.before.before.before.args.ld (first-low c.before.before.before.before.before.before))) c.before.before.before.before.before.before.least.ensures.1 c.before.before.before.solve-across2.ensures.0,
-      zero-block g.down g.m g.diag (entry_of (opForm g.t) g.a.now g.lda) g.p g.n c.before.before.before.before.before.before.least.result c.before.before.before.solve-across2.result _ (omega (arith, c.before.before.before.before.before.before.before.before.before.requires)) c.before.before.before.before.before.before.least.ensures.0 c.before.before.before.before.before.before.least.ensures.1 c.before.before.before.solve-across2.ensures.1 c.lower2.ensures,
+      zero-block g.down g.m g.diag (entry_of (op_form g.t) g.a.now g.lda) g.p g.n c.before.before.before.before.before.before.least.result c.before.before.before.solve-across2.result _ (omega (arith, c.before.before.before.before.before.before.before.before.before.requires)) c.before.before.before.before.before.before.least.ensures.0 c.before.before.before.before.before.before.least.ensures.1 c.before.before.before.solve-across2.ensures.1 c.lower2.ensures,
     )
 
 pub solve-block-spec : {M : Type 1} → statement M

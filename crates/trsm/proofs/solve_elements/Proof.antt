@@ -5,9 +5,9 @@ use mathlib.Core.Path.{◌≡◌, refl, sym, ap, subst, ◌∙◌}
 use native.Mathlib.Omega.{arith}
 use lib.ListN.{length}
 use Rattle.floats.specs.Array.{at}
-use Rattle.definitions.specs.Element.{byZero}
+use Rattle.definitions.specs.Element.{by_zero}
 use Rattle.packing.specs.Factor.{entry_of}
-use Rattle.forms.specs.Forms.{opForm}
+use Rattle.forms.specs.Forms.{op_form}
 use Rattle.lines.proofs.GridLaws.{some-ld}
 use Rattle.trsm_diagonal.specs.Solve.{front}
 use Rattle.trsm_diagonal.proofs.BlockLaws.{diagonal-index}
@@ -20,8 +20,8 @@ use Rattle.trsm.proofs.solve_elements.Tie as tie
 
 abbrev invariant-loop : tie.invariant-loop
 invariant-loop left down diag b₀ ld m lines t a lda zero₀ j₀ b zero j =
-    (j ≤ m) × (length b ≡ length b₀) × Step left down ld m lines diag (entry_of (opForm t) a lda) (front m 0) (λ k. front j j (front m 0 k)) b₀ b
-    × LowestZero down m diag (entry_of (opForm t) a lda) 0 j zero
+    (j ≤ m) × (length b ≡ length b₀) × Step left down ld m lines diag (entry_of (op_form t) a lda) (front m 0) (λ k. front j j (front m 0 k)) b₀ b
+    × LowestZero down m diag (entry_of (op_form t) a lda) 0 j zero
 
 abbrev decreases-loop : tie.decreases-loop
 decreases-loop left down diag b₀ ld m lines t a lda zero₀ j₀ b zero j = m - j
@@ -30,7 +30,7 @@ loop-holds : tie.Need-loop-init invariant-loop decreases-loop
 loop-holds c =
     let s = c.before.before in
     let g = s.args in
-    (omega arith, refl, elements-none g.left g.down g.ld g.m g.lines g.diag g.t g.a.now g.lda (some-ld g.left g.ld g.m g.lines _ (omega (arith, s.requires)) (omega (arith, s.requires)) s.requires.1.0) g.b.now, zero-none g.down g.m g.diag (entry_of (opForm g.t) g.a.now g.lda))
+    (omega arith, refl, elements-none g.left g.down g.ld g.m g.lines g.diag g.t g.a.now g.lda (some-ld g.left g.ld g.m g.lines _ (omega (arith, s.requires)) (omega (arith, s.requires)) s.requires.1.0) g.b.now, zero-none g.down g.m g.diag (entry_of (op_form g.t) g.a.now g.lda))
 
 turn-of-requires : tie.Need-turn-of-requires invariant-loop decreases-loop
 turn-of-requires c κs = omega arith
@@ -69,8 +69,8 @@ loop-again c =
       omega arith,
       omega (arith, h.invariant.1, c.before.before.before.before.solve-element.auto),
       λ start k b₀ e. c.before.before.before.before.solve-element.ensures start k b₀ (h.invariant.2 start k b₀ e),
-      zero-unknown g.down g.m g.diag (entry_of (opForm g.t) g.a.now g.lda) h.j i h.zero _ c.before.ends-by-zero.result c.before.before.before.before.before.before.before.loop-test.true c.before.before.before.before.before.before.turn-of.ensures.0 h.invariant.3
-          (c.before.ends-by-zero.ensures ∙ ap (λ (x : ℕ). byZero g.diag (at g.a.now x)) (sym (diagonal-index g.t g.lda i))) c.lower.ensures,
+      zero-unknown g.down g.m g.diag (entry_of (op_form g.t) g.a.now g.lda) h.j i h.zero _ c.before.ends-by-zero.result c.before.before.before.before.before.before.before.loop-test.true c.before.before.before.before.before.before.turn-of.ensures.0 h.invariant.3
+          (c.before.ends-by-zero.ensures ∙ ap (λ (x : ℕ). by_zero g.diag (at g.a.now x)) (sym (diagonal-index g.t g.lda i))) c.lower.ensures,
     )
 
 same_length : tie.Need-same-length invariant-loop decreases-loop
@@ -83,8 +83,8 @@ returns c =
     let h = c.before.loop in
     let e : h.j ≡ g.m = omega arith in (
       elements-all g.left g.down g.ld g.m g.lines g.diag g.t g.a.now g.lda (some-ld g.left g.ld g.m g.lines _ (omega (arith, s.requires)) (omega (arith, s.requires)) s.requires.1.0) g.b.now h.b
-          (subst (λ (j : ℕ). Step g.left g.down g.ld g.m g.lines g.diag (entry_of (opForm g.t) g.a.now g.lda) (front g.m 0) (λ k. front j j (front g.m 0 k)) g.b.now h.b) e h.invariant.2),
-      zero-all g.down g.m g.diag (entry_of (opForm g.t) g.a.now g.lda) h.zero (subst (λ (j : ℕ). LowestZero g.down g.m g.diag (entry_of (opForm g.t) g.a.now g.lda) 0 j h.zero) e h.invariant.3),
+          (subst (λ (j : ℕ). Step g.left g.down g.ld g.m g.lines g.diag (entry_of (op_form g.t) g.a.now g.lda) (front g.m 0) (λ k. front j j (front g.m 0 k)) g.b.now h.b) e h.invariant.2),
+      zero-all g.down g.m g.diag (entry_of (op_form g.t) g.a.now g.lda) h.zero (subst (λ (j : ℕ). LowestZero g.down g.m g.diag (entry_of (op_form g.t) g.a.now g.lda) 0 j h.zero) e h.invariant.3),
     )
 
 pub solve-elements-spec : {M : Type 1} → statement M

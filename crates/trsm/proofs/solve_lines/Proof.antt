@@ -2,7 +2,7 @@
 -- Assumes nothing.
 use mathlib.Core.Path.{sym, ◌∙◌}
 use Rattle.packing.specs.Factor.{entry_of}
-use Rattle.forms.specs.Forms.{opForm}
+use Rattle.forms.specs.Forms.{op_form}
 use Rattle.lines.proofs.GridLaws.{some-ld}
 use Rattle.trsm.proofs.LineLaws.{all-cleared, all_done}
 use native.Mathlib.Omega.{arith}
@@ -32,7 +32,7 @@ returns : tie.Need-returns
 returns c =
     let s = c.before.before.before.before.before.before.before.before.before.before in
     let g = s.args in
-    all-cleared g.left g.down g.ld g.m g.lines g.diag g.alpha (entry_of (opForm g.t) g.a.now g.lda) (some-ld g.left g.ld g.m g.lines _ (omega (arith, s.requires)) (omega (arith, s.requires)) s.requires.1.0) g.b.now _ _ _ c.before.before.before.before.before.before.before.pick.ensures c.before.before.before.before.before.before.pick2.ensures
+    all-cleared g.left g.down g.ld g.m g.lines g.diag g.alpha (entry_of (op_form g.t) g.a.now g.lda) (some-ld g.left g.ld g.m g.lines _ (omega (arith, s.requires)) (omega (arith, s.requires)) s.requires.1.0) g.b.now _ _ _ c.before.before.before.before.before.before.before.pick.ensures c.before.before.before.before.before.before.pick2.ensures
     (sym c.before.before.before.before.before.is_zero.ensures ∙ c.before.before.before.before.if1.true) c.before.before.clear.ensures
 
 factor-requires : tie.Need-factor-requires
@@ -61,7 +61,7 @@ returns-2 c =
     let v = c.before.before.before.before.before.before.before.before in
     let s = v.before.before.before.before.before.before.before.before.before in
     let g = s.args in
-    all_done g.left g.down g.ld g.m g.lines g.diag g.alpha (entry_of (opForm g.t) g.a.now g.lda) (some-ld g.left g.ld g.m g.lines _ (omega (arith, s.requires)) (omega (arith, s.requires)) s.requires.1.0) g.b.now _ _ _ v.before.before.before.before.before.before.pick.ensures v.before.before.before.before.before.pick2.ensures
+    all_done g.left g.down g.ld g.m g.lines g.diag g.alpha (entry_of (op_form g.t) g.a.now g.lda) (some-ld g.left g.ld g.m g.lines _ (omega (arith, s.requires)) (omega (arith, s.requires)) s.requires.1.0) g.b.now _ _ _ v.before.before.before.before.before.before.pick.ensures v.before.before.before.before.before.pick2.ensures
     (sym v.before.before.before.before.is_zero.ensures ∙ v.before.before.before.if1.false) _ _ _ v.before.factor.ensures v.scale.ensures c.before.before.solve-elements.ensures
 
 solve-requires : tie.Need-solve-requires
@@ -78,7 +78,7 @@ returns-3 c =
     let v = c.before.before.before.before.before.before.before.before in
     let s = v.before.before.before.before.before.before.before.before.before in
     let g = s.args in
-    all_done g.left g.down g.ld g.m g.lines g.diag g.alpha (entry_of (opForm g.t) g.a.now g.lda) (some-ld g.left g.ld g.m g.lines _ (omega (arith, s.requires)) (omega (arith, s.requires)) s.requires.1.0) g.b.now _ _ _ v.before.before.before.before.before.before.pick.ensures v.before.before.before.before.before.pick2.ensures
+    all_done g.left g.down g.ld g.m g.lines g.diag g.alpha (entry_of (op_form g.t) g.a.now g.lda) (some-ld g.left g.ld g.m g.lines _ (omega (arith, s.requires)) (omega (arith, s.requires)) s.requires.1.0) g.b.now _ _ _ v.before.before.before.before.before.before.pick.ensures v.before.before.before.before.before.pick2.ensures
     (sym v.before.before.before.before.is_zero.ensures ∙ v.before.before.before.if1.false) _ _ _ v.before.factor.ensures v.scale.ensures c.before.before.solve.ensures
 
 pub solve-lines-spec : {M : Type 1} → statement M

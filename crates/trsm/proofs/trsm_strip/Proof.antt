@@ -5,7 +5,7 @@ use mathlib.Core.Path.{refl, ◌∙◌}
 use lib.ListN.{length}
 use mir.Syntax.{w32}
 use mir.ValLaws.{to_z-of_z}
-use Rattle.definitions.specs.Call.{bySide, inPlace}
+use Rattle.definitions.specs.Call.{by_side, in_place}
 use Rattle.definitions.specs.declared.Routine.TheVariants.{Trsm}
 use Rattle.definitions.specs.declared.Side.TheVariants.{Left, Right}
 use Rattle.lines.proofs.StripLaws.{LinesFit, left-fits, right-fits}
@@ -36,7 +36,7 @@ enum_told : tie.Need-enum-told
 enum_told c = search rules
 
 fits-left : (c : tie.After-enum-told) → LinesFit c.before.before.before.before.before.before.before.before.before.args.call true c.before.before.before.before.before.before.before.before.before.args.from c.before.before.before.before.before.before.before.before.before.args.call.m c.before.before.before.before.before.before.before.before.before.args.lines c.before.before.before.before.before.before.before.before.before.args.call.n (length c.before.before.before.before.before.before.before.before.before.args.a.now) (length c.before.before.before.before.before.before.before.before.before.args.b.now)
-unfolding inPlace
+unfolding in_place
 fits-left c = left-fits Trsm refl c.before.before.before.before.before.before.before.before.before.args.call (length c.before.before.before.before.before.before.before.before.before.args.a.now) (length c.before.before.before.before.before.before.before.before.before.args.b.now) _ c.before.before.before.before.before.before.before.before.before.args.from c.before.before.before.before.before.before.before.before.before.args.lines c.before.before.before.before.before.before.before.before.before.requires.0.1 (omega (arith, c.before.before.before.before.before.before.before.before.before.requires.1)) (omega (arith, c.before.before.before.before.before.before.before.before.before.requires.1)) c.enum_told.given.1
 
 solve-lines-requires : tie.Need-solve-lines-requires
@@ -45,14 +45,14 @@ solve-lines-requires c κs =
     ((k.some, omega (arith, c.before.before.before.before.before.before.before.before.before.before.requires.1), omega (arith, c.before.before.before.before.before.before.before.before.before.before.requires.1), omega (arith, c.before.before.before.before.before.before.before.before.before.before.requires.1), omega (arith, c.before.before.before.before.before.before.before.before.before.before.requires.1)), (k.room, k.reads))
 
 report-requires : tie.Need-report-requires
-unfolding bySide
+unfolding by_side
 report-requires c κs = zero-small c.before.before.before.before.before.before.before.before.before.before.before.before.before.args.call Left c.before.before.before.before.enum_told.given.1 c.before.before.before.before.before.before.before.before.before.before.before.before.before.args.a.now _ _ _ c.before.before.before.before.before.before.before.before.before.before.before.before.before.requires.0.1 _ c.before.before.solve-lines.ensures.1 (omega (arith, c.before.before.before.before.before.before.before.before.before.before.before.before.before.well-formed)) (fits-left c.before.before.before.before).reads
 
 enum-told-2 : tie.Need-enum-told-2
 enum-told-2 c = search rules
 
 fits-right : (c : tie.After-enum-told2) → LinesFit c.before.before.before.before.before.before.before.before.before.args.call false c.before.before.before.before.before.before.before.before.before.args.from c.before.before.before.before.before.before.before.before.before.args.call.n c.before.before.before.before.before.before.before.before.before.args.lines c.before.before.before.before.before.before.before.before.before.args.call.m (length c.before.before.before.before.before.before.before.before.before.args.a.now) (length c.before.before.before.before.before.before.before.before.before.args.b.now)
-unfolding inPlace
+unfolding in_place
 fits-right c = right-fits Trsm refl c.before.before.before.before.before.before.before.before.before.args.call (length c.before.before.before.before.before.before.before.before.before.args.a.now) (length c.before.before.before.before.before.before.before.before.before.args.b.now) _ c.before.before.before.before.before.before.before.before.before.args.from c.before.before.before.before.before.before.before.before.before.args.lines c.before.before.before.before.before.before.before.before.before.requires.0.1 (omega (arith, c.before.before.before.before.before.before.before.before.before.requires.1)) (omega (arith, c.before.before.before.before.before.before.before.before.before.requires.1)) c.enum-told2.given.1
 
 solve-lines-requires-2 : tie.Need-solve-lines-requires-2
@@ -61,14 +61,14 @@ solve-lines-requires-2 c κs =
     ((k.some, omega (arith, c.before.before.before.before.before.before.before.before.before.before.requires.1), omega (arith, c.before.before.before.before.before.before.before.before.before.before.requires.1), omega (arith, c.before.before.before.before.before.before.before.before.before.before.requires.1), omega (arith, c.before.before.before.before.before.before.before.before.before.before.requires.1)), (k.room, k.reads))
 
 report-requires-2 : tie.Need-report-requires-2
-unfolding bySide
+unfolding by_side
 report-requires-2 c κs = zero-small c.before.before.before.before.before.before.before.before.before.before.before.before.before.args.call Right c.before.before.before.before.enum-told2.given.1 c.before.before.before.before.before.before.before.before.before.before.before.before.before.args.a.now _ _ _ c.before.before.before.before.before.before.before.before.before.before.before.before.before.requires.0.1 _ c.before.before.solve-lines2.ensures.1 (omega (arith, c.before.before.before.before.before.before.before.before.before.before.before.before.before.well-formed)) (fits-right c.before.before.before.before).reads
 
 same_length : tie.Need-same-length
 same_length c = search rules
 
 returns : tie.Need-returns
-unfolding bySide
+unfolding by_side
 returns c =
     let g = c.before.before.before.before.before.before.before.before.before.before.before.before.before.before.args in
     let k = fits-left c.before.before.before.before.before in (
@@ -80,7 +80,7 @@ same-length-2 : tie.Need-same-length-2
 same-length-2 c = search rules
 
 returns-2 : tie.Need-returns-2
-unfolding bySide
+unfolding by_side
 returns-2 c =
     let g = c.before.before.before.before.before.before.before.before.before.before.before.before.before.before.args in
     let k = fits-right c.before.before.before.before.before in (

@@ -5,7 +5,7 @@ use mathlib.Core.Path.{◌≡◌, refl, sym, subst, ◌∙◌}
 use lib.ListN.{length}
 use Rattle.definitions.specs.declared.Diagonal.{Diagonal}
 use Rattle.packing.specs.Factor.{entry_of}
-use Rattle.forms.specs.Forms.{opForm}
+use Rattle.forms.specs.Forms.{op_form}
 use Rattle.lines.specs.Lines.{Room}
 use Rattle.lines.proofs.GridLaws.{some-ld}
 use Rattle.trsm_diagonal.specs.Solve.{front}
@@ -20,7 +20,7 @@ use Rattle.trsm.proofs.update_rest.Tie as tie
 abbrev invariant-loop : tie.invariant-loop
 invariant-loop left down b₀ ld m lines t a lda p n r i₀ w x x0 b i =
     (p + n ≤ i) × (i ≤ m) × (length b ≡ length b₀)
-    × ((diag : Diagonal) → Step left down ld m lines diag (entry_of (opForm t) a lda) (λ k. front (p + n) (p + n) (front m p k)) (λ k. front i (p + n) (front m p k)) b₀ b)
+    × ((diag : Diagonal) → Step left down ld m lines diag (entry_of (op_form t) a lda) (λ k. front (p + n) (p + n) (front m p k)) (λ k. front i (p + n) (front m p k)) b₀ b)
 
 abbrev decreases-loop : tie.decreases-loop
 decreases-loop left down b₀ ld m lines t a lda p n r i₀ w x x0 b i = m - i
@@ -33,9 +33,9 @@ returns : tie.Need-returns invariant-loop decreases-loop
 returns c =
     let g = c.before.before.before.args in
     let e : g.p + g.n ≡ g.m = c.if1.true in
-    λ diag. terms-done g.left g.down g.ld g.m g.lines diag (entry_of (opForm g.t) g.a.now g.lda) (some-ld g.left g.ld g.m g.lines _ (omega arith) (omega arith) c.before.before.before.requires.1.0)
+    λ diag. terms-done g.left g.down g.ld g.m g.lines diag (entry_of (op_form g.t) g.a.now g.lda) (some-ld g.left g.ld g.m g.lines _ (omega arith) (omega arith) c.before.before.before.requires.1.0)
     g.p g.n g.m g.b.now g.b.now
-    (subst (λ (i : ℕ). Step g.left g.down g.ld g.m g.lines diag (entry_of (opForm g.t) g.a.now g.lda) (λ k. front (g.p + g.n) (g.p + g.n) (front g.m g.p k)) (λ k. front i (g.p + g.n) (front g.m g.p k)) g.b.now g.b.now) e
+    (subst (λ (i : ℕ). Step g.left g.down g.ld g.m g.lines diag (entry_of (op_form g.t) g.a.now g.lda) (λ k. front (g.p + g.n) (g.p + g.n) (front g.m g.p k)) (λ k. front i (g.p + g.n) (front g.m g.p k)) g.b.now g.b.now) e
     (λ start k l h. h))
 
 reach-requires : tie.Need-reach-requires invariant-loop decreases-loop
@@ -97,7 +97,7 @@ loop-again c =
       omega (arith, s),
       omega (arith, s),
       c.before.before.add-terms.auto.1.1.0 ∙ c.before.before.before.before.before.before.before.before.loop.invariant.2,
-      λ diag. terms-more g.left g.down g.ld g.m g.lines diag (entry_of (opForm g.t) g.a.now g.lda) (some-ld g.left g.ld g.m g.lines _ (omega (arith, s)) (omega (arith, c.before.before.before.before.before.before.before.before.before.before.before.before.before.before.before.before.before.before.requires)) c.before.before.before.before.before.before.before.before.before.before.before.before.before.before.before.before.before.before.requires.1.0)
+      λ diag. terms-more g.left g.down g.ld g.m g.lines diag (entry_of (op_form g.t) g.a.now g.lda) (some-ld g.left g.ld g.m g.lines _ (omega (arith, s)) (omega (arith, c.before.before.before.before.before.before.before.before.before.before.before.before.before.before.before.before.before.before.requires)) c.before.before.before.before.before.before.before.before.before.before.before.before.before.before.before.before.before.before.requires.1.0)
           _ g.p g.n g.m c.before.before.before.before.before.before.before.before.loop.i c.before.before.before.before.before.before.smaller.result c.before.before.before.before.before.before.before.before.before.before.before.before.before.least.result c.before.before.before.before.before.least2.result _ _ g.b.now c.before.before.before.before.before.before.before.before.loop.b _ minus_one (omega (arith, c.before.before.before.before.before.before.before.before.before.before.before.before.before.before.before.before.before.before.requires)) (omega (arith, c.before.before.before.before.before.before.before.before.before.before.before.before.before.before.before.before.before.before.requires)) (omega (arith, s)) (omega (arith, s)) (omega arith)
           (omega arith) c.before.before.before.before.before.before.before.before.before.before.before.before.before.before.before.before.before.before.requires.1.0 c.before.before.before.before.before.before.before.before.before.before.before.before.before.least.ensures.0 c.before.before.before.before.before.least2.ensures.0 c.before.before.before.before.before.before.before.before.before.before.take.ensures (c.before.before.before.before.before.before.before.before.loop.invariant.3 diag) c.before.before.add-terms.ensures,
     )
@@ -109,9 +109,9 @@ returns-2 : tie.Need-returns-2 invariant-loop decreases-loop
 returns-2 c =
     let g = c.before.before.before.before.before.before.before.before.before.before.before.args in
     let e : c.before.loop.i ≡ g.m = omega arith in
-    λ diag. terms-done g.left g.down g.ld g.m g.lines diag (entry_of (opForm g.t) g.a.now g.lda) (some-ld g.left g.ld g.m g.lines _ (omega arith) (omega arith) c.before.before.before.before.before.before.before.before.before.before.before.requires.1.0)
+    λ diag. terms-done g.left g.down g.ld g.m g.lines diag (entry_of (op_form g.t) g.a.now g.lda) (some-ld g.left g.ld g.m g.lines _ (omega arith) (omega arith) c.before.before.before.before.before.before.before.before.before.before.before.requires.1.0)
     g.p g.n g.m g.b.now c.before.loop.b
-    (subst (λ (i : ℕ). Step g.left g.down g.ld g.m g.lines diag (entry_of (opForm g.t) g.a.now g.lda) (λ k. front (g.p + g.n) (g.p + g.n) (front g.m g.p k)) (λ k. front i (g.p + g.n) (front g.m g.p k)) g.b.now c.before.loop.b) e
+    (subst (λ (i : ℕ). Step g.left g.down g.ld g.m g.lines diag (entry_of (op_form g.t) g.a.now g.lda) (λ k. front (g.p + g.n) (g.p + g.n) (front g.m g.p k)) (λ k. front i (g.p + g.n) (front g.m g.p k)) g.b.now c.before.loop.b) e
     (c.before.loop.invariant.3 diag))
 
 pub update-rest-spec : {M : Type 1} → statement M

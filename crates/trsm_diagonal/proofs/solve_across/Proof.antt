@@ -7,9 +7,9 @@ use native.Mathlib.Omega.{arith}
 use lib.ListN.{length}
 use Rattle.arrays.proofs.PartLaws.{tail-length}
 use Rattle.arrays.proofs.SearchLaws.{lowest-same}
-use Rattle.definitions.specs.Element.{byZero}
+use Rattle.definitions.specs.Element.{by_zero}
 use Rattle.packing.specs.Factor.{entry_of}
-use Rattle.forms.specs.Forms.{opForm}
+use Rattle.forms.specs.Forms.{op_form}
 use Rattle.trsm_diagonal.proofs.OrderLaws.{ordered_same}
 use Rattle.trsm_diagonal.proofs.FactorLaws.{packed-is}
 use Rattle.trsm_diagonal.proofs.BlockLaws.{diagonal-inside, diagonal-part}
@@ -63,8 +63,8 @@ returns c =
       c.before.before.before.solve-groups.ensures.0
           ∙ ordered_same false g.down g.ld g.n g.lines _ _ g.s.now (omega (arith, c.before.before.before.before.before.before.before.before.before.before.before.before.before.requires))
           (λ q l hq hl x.
-          packed-is g.left g.down g.n g.x0 g.diag (entry_of (opForm g.t) g.a.now g.lda) _ _ _ (λ i h. diagonal-part g.t g.a.now g.lda g.x0 i) c.before.before.before.before.before.before.before.before.before.matrix-factors.ensures q hq),
-      lowest-same _ _ g.n _ (λ i h. ap (byZero g.diag) (diagonal-part g.t g.a.now g.lda g.x0 i)) c.before.before.before.solve-groups.ensures.1,
+          packed-is g.left g.down g.n g.x0 g.diag (entry_of (op_form g.t) g.a.now g.lda) _ _ _ (λ i h. diagonal-part g.t g.a.now g.lda g.x0 i) c.before.before.before.before.before.before.before.before.before.matrix-factors.ensures q hq),
+      lowest-same _ _ g.n _ (λ i h. ap (by_zero g.diag) (diagonal-part g.t g.a.now g.lda g.x0 i)) c.before.before.before.solve-groups.ensures.1,
     )
 
 pub solve-across-spec : {M : Type 1} → statement M

@@ -10,7 +10,7 @@ use borrow.Rule.Slice.PartMut.{put_mid, same_len_mid}
 use Rattle.arrays.proofs.UpdateLaws.{length-update}
 use Rattle.arrays.proofs.PartLaws.{tail-length, column-room, columns-room}
 use Rattle.arrays.proofs.SearchLaws.{lowest-same}
-use Rattle.definitions.specs.Element.{byZero}
+use Rattle.definitions.specs.Element.{by_zero}
 use Rattle.packing.specs.Factor.{entry_of}
 use Rattle.packing.specs.declared.Form.TheVariants.{Plain}
 use Rattle.definitions.specs.declared.Transpose.TheVariants.{No}
@@ -215,7 +215,7 @@ loop-again c =
     let y = c.before.before.before.before.before.before.before.before.before.before.before.before.before.before.before.before.least.result in
     let h = c.before.before.before.before.before.before.before.before.before.before.before.before.before.before.before.before.before.small.result in
     let done = group-done g.left g.down g.ld g.n g.lines g.diag (entry_of Plain g.a.now g.lda) g.v.now g.s.now g.u.now c.before.before.before.before.before.before.before.before.before.before.before.before.before.before.before.before.before.before.before.before.before.before.before.before.requires.0.1 c.before.before.before.before.before.before.before.before.before.before.before.before.before.before.before.before.before.before.before.before.before.before.before.before.requires.1 (omega (arith, c.before.before.before.before.before.before.before.before.before.before.before.before.before.before.before.before.before.before.before.before.before.before.before.before.requires), omega (arith, c.before.before.before.before.before.before.before.before.before.before.before.before.before.before.before.before.before.before.before.before.before.before.before.before.requires)) c.before.before.before.before.before.before.before.before.before.before.before.before.before.before.before.before.before.before.before.loop.j y c.before.before.before.before.before.before.before.before.before.before.before.before.before.before.before.before.before.before.before.loop.u c.before.before.before.before.before.before.before.before.before.before.before.before.before.before.before.before.before.before.before.loop.s c.before.before.before.before.before.before.before.before.before.before.before.before.before.before.before.before.before.before.before.loop.invariant.3 c.before.before.before.before.before.before.before.before.before.before.before.before.before.before.before.before.before.before.before.loop.invariant.4 h _ t.some t.within c.before.before.before.before.before.before.before.before.before.before.before.before.before.before.before.before.least.ensures.0 c.before.before.before.before.before.before.before.before.before.before.before.before.before.before.before.before.least.ensures.1 c.before.before.before.before.before.before.before.before.before.before.before.before.block.ensures _ (λ i hi. diagonal-part No g.a.now g.lda y i) _ _ c.before.before.before.before.before.solve-unknowns.ensures.0 c.before.before.before.before.before.solve-unknowns.ensures.1 in
-    let found = zero-found g.down g.n g.diag (entry_of Plain g.a.now g.lda) c.before.before.before.before.before.before.before.before.before.before.before.before.before.before.before.before.before.before.before.loop.j h y c.before.before.before.before.before.solve-unknowns.result t.within c.before.before.before.before.before.before.before.before.before.before.before.before.before.before.before.before.least.ensures.0 c.before.before.before.before.before.before.before.before.before.before.before.before.before.before.before.before.least.ensures.1 (lowest-same _ _ h _ (λ i hi. ap (byZero g.diag) (diagonal-part No g.a.now g.lda y i)) c.before.before.before.before.before.solve-unknowns.ensures.2) in
+    let found = zero-found g.down g.n g.diag (entry_of Plain g.a.now g.lda) c.before.before.before.before.before.before.before.before.before.before.before.before.before.before.before.before.before.before.before.loop.j h y c.before.before.before.before.before.solve-unknowns.result t.within c.before.before.before.before.before.before.before.before.before.before.before.before.before.before.before.before.least.ensures.0 c.before.before.before.before.before.before.before.before.before.before.before.before.before.before.before.before.least.ensures.1 (lowest-same _ _ h _ (λ i hi. ap (by_zero g.diag) (diagonal-part No g.a.now g.lda y i)) c.before.before.before.before.before.solve-unknowns.ensures.2) in
     let zero = zero_more g.down g.n g.diag (entry_of Plain g.a.now g.lda) c.before.before.before.before.before.before.before.before.before.before.before.before.before.before.before.before.before.before.before.loop.j (c.before.before.before.before.before.before.before.before.before.before.before.before.before.before.before.before.before.before.before.loop.j + h) c.before.before.before.before.before.before.before.before.before.before.before.before.before.before.before.before.before.before.before.loop.zero _ _ _ (omega arith) c.before.before.before.before.before.before.before.before.before.before.before.before.before.before.before.before.before.before.before.loop.invariant.5 found c.lower.ensures in
     (t.within, ap length done.0 ∙ length-update _ _, ap length done.1 ∙ length-update _ _, done.0, done.1, zero)
 

@@ -1,7 +1,7 @@
 -- `solve_unknown` adds the terms of one unknown of each line and ends its sum.
 -- Assumes nothing.
 use mathlib.Core.Path.{◌∙◌}
-use Rattle.definitions.specs.Element.{byZero}
+use Rattle.definitions.specs.Element.{by_zero}
 use Rattle.trsm_diagonal.proofs.FactorLaws.{unit-end, nonunit-end}
 use borrow.Author.Rules.{rules}
 use Rattle.trsm_diagonal.proofs.solve_unknown.Statement.{statement}
@@ -32,14 +32,14 @@ same_length : tie.Need-same-length
 same_length c = search rules
 
 returns : tie.Need-returns
-unfolding byZero
+unfolding by_zero
 returns c = (unit-end c.before.before.before.before.before.before.before.before.before.before.args.lines _ _ c.before.before.before.before.before.before.before.before.before.before.args.s.now _ c.before.before.column.ensures c.before.before.before.before.enum_told.given.1, rw c.before.before.before.before.enum_told.given.1)
 
 same-length-2 : tie.Need-same-length-2
 same-length-2 c = search rules
 
 returns-2 : tie.Need-returns-2
-unfolding byZero
+unfolding by_zero
 returns-2 c = (nonunit-end c.before.before.before.before.before.before.before.before.before.before.before.before.before.before.before.args.lines _ _ c.before.before.before.before.before.before.before.before.before.before.before.before.before.before.before.args.s.now _ c.before.before.before.before.before.before.column2.ensures _ c.before.before.before.before.before.before.before.before.before.enum-told2.given.1 c.before.before.divide-column.ensures.0, c.before.before.divide-column.ensures.1 ∙ rw c.before.before.before.before.before.before.before.before.before.enum-told2.given.1)
 
 pub solve-unknown-spec : {M : Type 1} → statement M

@@ -8,7 +8,7 @@ use borrow.Author.Rules.{rules}
 use Rattle.arrays.specs.Update.{update, region}
 use Rattle.arrays.proofs.UpdateLaws.{length-update}
 use Rattle.packing.specs.Factor.{entry_of}
-use Rattle.direct.specs.Product.{fromRow, fromColumn, partly, product}
+use Rattle.direct.specs.Product.{from_row, from_column, partly, product}
 use Rattle.packing.proofs.FactorLaws.{upward, along-up, turn_below, turn_along, panel-indices}
 use Rattle.direct.proofs.DirectLaws.{partly_none}
 use Rattle.kernel.proofs.PanelLaws.{panel-next}
@@ -18,7 +18,7 @@ use Rattle.kernel.proofs.panels.panels.Tie as tie
 abbrev invariant-loop : tie.invariant-loop
 invariant-loop c₀ ld rows cols k fa a lda i0 fb b ldb j0 alpha down r u₀ t₀ l₀ c u t l =
     (l ≤ k) × (length c ≡ length c₀) × (length u ≡ length u₀) × (length t ≡ length t₀)
-    × (c ≡ update (region ld rows cols (partly alpha (fromRow i0 (entry_of fa a lda)) (fromColumn j0 (entry_of fb b ldb)) down k l)) c₀)
+    × (c ≡ update (region ld rows cols (partly alpha (from_row i0 (entry_of fa a lda)) (from_column j0 (entry_of fb b ldb)) down k l)) c₀)
 
 abbrev decreases-loop : tie.decreases-loop
 decreases-loop c₀ ld rows cols k fa a lda i0 fb b ldb j0 alpha down r u₀ t₀ l₀ c u t l = k - l

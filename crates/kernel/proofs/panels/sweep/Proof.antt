@@ -10,7 +10,7 @@ use Rattle.arrays.proofs.PartLaws.{tail-length, column-room}
 use Rattle.arrays.proofs.RegionLaws.{region-no-rows}
 use Rattle.arrays.proofs.UpdateLaws.{length-update}
 use Rattle.packing.specs.Factor.{entry_of, along}
-use Rattle.kernel.specs.Panels.{halfPacked}
+use Rattle.kernel.specs.Panels.{half_packed}
 use Rattle.packing.proofs.FactorLaws.{upward, up_from}
 use Rattle.kernel.proofs.PanelLaws.{rows_more}
 use Rattle.kernel.proofs.panels.sweep.Statement.{statement}
@@ -19,7 +19,7 @@ use Rattle.kernel.proofs.panels.sweep.Tie as tie
 abbrev invariant-loop : tie.invariant-loop
 invariant-loop c₀ ld rows cols terms fa a lda i0 l0 down r u₀ t i₀ c u i =
     (i ≤ rows) × (length c ≡ length c₀) × (length u ≡ length u₀)
-    × (c ≡ update (region ld i cols (halfPacked terms t (λ i q. entry_of fa a lda (i0 + i) (along down l0 q)))) c₀)
+    × (c ≡ update (region ld i cols (half_packed terms t (λ i q. entry_of fa a lda (i0 + i) (along down l0 q)))) c₀)
 
 abbrev decreases-loop : tie.decreases-loop
 decreases-loop c₀ ld rows cols terms fa a lda i0 l0 down r u₀ t i₀ c u i = rows - i

@@ -1,6 +1,6 @@
 -- `mirror::block` meets its contract: the lines below x are done.
 -- Assumes nothing.
-use Rattle.packing.specs.Factor.{mirroredForm, entry_of}
+use Rattle.packing.specs.Factor.{mirrored_form, entry_of}
 use Rattle.arrays.proofs.UpdateLaws.{length-update}
 use Rattle.arrays.proofs.RegionLaws.{region-no-columns, region-column}
 use Rattle.arrays.proofs.PartLaws.{tail-length, column-room}
@@ -15,7 +15,7 @@ use Rattle.packing.proofs.mirror.block.Statement.{statement}
 use Rattle.packing.proofs.mirror.block.Tie as tie
 
 abbrev invariant-loop : tie.invariant-loop
-invariant-loop dest₀ stride ny nx lower a ld i j x₀ dest x = (x ≤ nx) × (length dest ≡ length dest₀) × (dest ≡ update (region stride ny x (λ y x _. entry_of (mirroredForm lower) a ld (i + y) (j + x))) dest₀)
+invariant-loop dest₀ stride ny nx lower a ld i j x₀ dest x = (x ≤ nx) × (length dest ≡ length dest₀) × (dest ≡ update (region stride ny x (λ y x _. entry_of (mirrored_form lower) a ld (i + y) (j + x))) dest₀)
 
 abbrev decreases-loop : tie.decreases-loop
 decreases-loop dest₀ stride ny nx lower a ld i j x₀ dest x = nx - x

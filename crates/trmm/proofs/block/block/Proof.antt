@@ -6,7 +6,7 @@ use lib.ListN.{length}
 use lib.Ieee.{of_bits}
 use Rattle.lines.proofs.GridLaws.{some-ld}
 use Rattle.packing.specs.Factor.{entry_of}
-use Rattle.forms.specs.Forms.{opForm}
+use Rattle.forms.specs.Forms.{op_form}
 use Rattle.trmm.proofs.BlockLaws.{sums-alone, block_made}
 use borrow.Author.Rules.{rules}
 use native.Mathlib.Omega.{arith}
@@ -38,8 +38,8 @@ returns : tie.Need-returns
 unfolding of_bits
 returns c = let g = c.before.before.before.before.before.before.before.before.before.before.before.before.before.args in
     let p = c.before.before.before.before.before.before.before.before.before.before.before.before.before.requires.0 in
-    block_made g.left g.after g.alpha g.diag (entry_of (opForm g.t) g.a.now g.lda) g.ld g.m g.lines g.p0 g.n g.b.now false _ _ (wide c.before.before.before.before.before.before.before.before.before.before.before.before.before) p.1 p.4 p.0 p.3
-    (sums-alone g.left g.after g.alpha g.diag (entry_of (opForm g.t) g.a.now g.lda) g.ld g.m g.lines g.p0 g.n g.b.now _ _ p.2 (c.before.before.before.before.before.before.before.before.before.before.is-alone.ensures c.before.before.before.before.before.before.before.before.before.if1.true) c.before.before.before.before.before.before.across.ensures)
+    block_made g.left g.after g.alpha g.diag (entry_of (op_form g.t) g.a.now g.lda) g.ld g.m g.lines g.p0 g.n g.b.now false _ _ (wide c.before.before.before.before.before.before.before.before.before.before.before.before.before) p.1 p.4 p.0 p.3
+    (sums-alone g.left g.after g.alpha g.diag (entry_of (op_form g.t) g.a.now g.lda) g.ld g.m g.lines g.p0 g.n g.b.now _ _ p.2 (c.before.before.before.before.before.before.before.before.before.before.is-alone.ensures c.before.before.before.before.before.before.before.before.before.if1.true) c.before.before.before.before.before.before.across.ensures)
     c.before.before.put.ensures
 
 slice-aggregate-sums : tie.Need-slice-aggregate-sums
@@ -61,7 +61,7 @@ returns-2 : tie.Need-returns-2
 unfolding of_bits
 returns-2 c = let g = c.before.before.before.before.before.before.before.before.before.before.before.before.before.args in
     let p = c.before.before.before.before.before.before.before.before.before.before.before.before.before.requires.0 in
-    block_made g.left g.after g.alpha g.diag (entry_of (opForm g.t) g.a.now g.lda) g.ld g.m g.lines g.p0 g.n g.b.now g.left _ _ (wide c.before.before.before.before.before.before.before.before.before.before.before.before.before) p.1 p.4 p.0 p.3 c.before.before.before.before.before.before.sums.ensures c.before.before.put2.ensures
+    block_made g.left g.after g.alpha g.diag (entry_of (op_form g.t) g.a.now g.lda) g.ld g.m g.lines g.p0 g.n g.b.now g.left _ _ (wide c.before.before.before.before.before.before.before.before.before.before.before.before.before) p.1 p.4 p.0 p.3 c.before.before.before.before.before.before.sums.ensures c.before.before.put2.ensures
 
 pub block_spec : {M : Type 1} → statement M
 block_spec =
