@@ -1,5 +1,7 @@
 // Arrays that are updated in place, and folds over the terms of an element: the definitions are in specs/, their laws in proofs/. The code is two choices between
 // indices.
+#![tactic(auto)]
+
 ghost use Rattle.std.specs.Prelude.{◌≡◌, ◌≤◌, ◌<◌};
 ghost use Rattle.arrays.specs.Choice.{if◌then◌else◌, least};
 

@@ -1,4 +1,6 @@
 // The direct calls. Each checks its arguments, and what is ready goes strip by strip through the update of its routine.
+#![tactic(auto)]
+
 ghost use Rattle.std.specs.Prelude.{◌≡◌, ℕ, ◌≤◌, ◌<◌, length};
 ghost use Rattle.definitions.specs.Check as Check;
 ghost use Rattle.definitions.specs.Direct as Direct;

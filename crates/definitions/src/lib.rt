@@ -1,4 +1,6 @@
 // The options, the scalars and the call of document 01, and the answers of the argument check and of a run. What they mean is in specs/.
+#![tactic(auto)]
+
 ghost use Rattle.std.specs.Prelude.{◌≡◌};
 ghost use Rattle.definitions.specs.Number as Number;
 

@@ -1,5 +1,7 @@
 // Tiny products, straight from the arrays that hold the factors: no buffers, four rows at a time in scalars.
 // A factor is read by two strides: entry (i, j) is element i * r + j * c.
+#![tactic(auto)]
+
 ghost use Rattle.std.specs.Prelude.{◌≡◌, true, false, ℕ, ◌+◌, ◌*◌, ◌≤◌, ◌<◌, length};
 ghost use Rattle.arrays.specs.Update.{update, below, entries, only, region, corner};
 ghost use Rattle.floats.specs.Array.{at};

@@ -1,4 +1,6 @@
 // The sum of one element of each line of B, straight from the arrays and in place: no buffers, four lines at a time in scalars.
+#![tactic(auto)]
+
 ghost use Rattle.std.specs.Prelude.{◌≡◌, ℕ, ◌+◌, ◌*◌, ◌<◌, length};
 ghost use Rattle.arrays.specs.Fold.{fold};
 ghost use Rattle.floats.specs.Array.{at};

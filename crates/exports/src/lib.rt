@@ -1,4 +1,6 @@
 // The direct calls, the call for many right sides, the integer solve and the runner of call sheets for programs in other languages: a slice is a pointer and then a length.
+#![tactic(auto)]
+
 ghost use Rattle.std.specs.Prelude.{◌≡◌};
 ghost use Rattle.definitions.specs.Direct as Direct;
 ghost use Rattle.definitions.specs.Many as Many;

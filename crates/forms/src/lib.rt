@@ -1,4 +1,6 @@
 // How the kernel reads the matrices of a call.
+#![tactic(auto)]
+
 ghost use Rattle.std.specs.Prelude.{◌≡◌};
 ghost use Rattle.definitions.specs.Storage.{op_triangle};
 ghost use Rattle.definitions.specs.Element.{solves_up};

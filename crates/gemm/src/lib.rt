@@ -1,4 +1,6 @@
 // GEMM and SYMM: the update of one strip. The two differ in how the kernel reads their factors.
+#![tactic(auto)]
+
 ghost use Rattle.std.specs.Prelude.{◌≡◌, false, ℕ, ◌+◌, ◌*◌, ◌≤◌, ◌<◌, length};
 ghost use Rattle.arrays.specs.Update.{update, region};
 ghost use Rattle.definitions.specs.Number.{is_zero};

@@ -1,4 +1,6 @@
 // The integer column X with AX = B, A triangular, over whole numbers: the X in signed 16-bit words, or that there is none.
+#![tactic(auto)]
+
 ghost use Rattle.std.specs.Prelude.{◌≡◌, true, false, ◌+◌, ◌*◌, ◌≤◌, ◌<◌, pos, nat_abs, ◌-ℤ◌, ◌*ℤ◌, length, get_or};
 ghost use Rattle.arrays.specs.Choice.{if◌then◌else◌};
 ghost use Rattle.arrays.specs.Update.{update, below};

@@ -1,4 +1,6 @@
 // The general multiply, column-major, with every element's terms in order: a tiny product straight from the arrays, any other by packed blocks.
+#![tactic(auto)]
+
 ghost use Rattle.std.specs.Prelude.{◌≡◌, ℕ, ◌+◌, ◌*◌, ◌≤◌, ◌<◌, length};
 ghost use Rattle.arrays.specs.Update.{update, region};
 ghost use Rattle.packing.specs.Factor.{index_of, entry_of};

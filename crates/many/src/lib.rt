@@ -1,5 +1,7 @@
 // One A, not transposed, and many right sides. All items read one panel, A's columns without padding: A's own part where it is stored so, and otherwise a copy in the
 // pack area. Each item is a GEMM of its own over that panel.
+#![tactic(auto)]
+
 ghost use Rattle.std.specs.Prelude.{◌≡◌, false, ◌++◌, ◌-◌, ◌*◌, ◌≤◌, ◌<◌, eqb, pos, length, take, drop};
 ghost use Rattle.std.specs.Float.{nan};
 ghost use Rattle.arrays.specs.Choice.{if◌then◌else◌};

@@ -1,4 +1,6 @@
 // Packing: how an array holds a factor of a product, and the copy of a block of a factor into a buffer.
+#![tactic(auto)]
+
 pub mod factor;
 pub mod mirror;
 pub mod pack;

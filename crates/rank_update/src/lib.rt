@@ -1,4 +1,6 @@
 // SYRK and SYR2K: the update of one strip. Only the strip's part of one triangle of C, diagonal included, is read or written.
+#![tactic(auto)]
+
 ghost use Rattle.std.specs.Prelude.{◌≡◌, ◌+◌, ◌*◌, ◌≤◌, ◌<◌, length};
 ghost use Rattle.arrays.specs.Update.{update, entries, only, trapezoid};
 ghost use Rattle.definitions.specs.Number.{start};

@@ -1,4 +1,6 @@
 // A call sheet: the words of its records, their tests, 31, 32, 33 and those of a direct call, and the tests of a run, 34, 35 and 36.
+#![tactic(auto)]
+
 ghost use Rattle.std.specs.Prelude.{◌≡◌, not, ◌||◌, List, ℕ, ◌+◌, ◌*◌, ◌-◌, ◌^◌, ◌≤◌, ◌<◌, ltb, pos, Float, length, get_or};
 ghost use Rattle.definitions.specs.Check as Check;
 ghost use Rattle.definitions.specs.Machine as Machine;

@@ -1,4 +1,6 @@
 // The sheet runner: at most so many steps of the plain machine, from a cursor on.
+#![tactic(auto)]
+
 ghost use Rattle.std.specs.Prelude.{◌≡◌, Bool, not, ◌++◌, ℕ, ◌+◌, ◌-◌, ◌*◌, ◌^◌, ◌≤◌, ◌<◌, pos, length, take, drop};
 ghost use Rattle.arrays.specs.Choice.{if◌then◌else◌, least};
 ghost use Rattle.arrays.specs.Search as Search;

@@ -1,4 +1,6 @@
 // What the sums of a routine that has beta start with, by the cases of beta.
+#![tactic(auto)]
+
 ghost use Rattle.std.specs.Prelude.{◌≡◌, ◌+◌, ◌*◌, ◌≤◌, ◌<◌, length};
 ghost use Rattle.arrays.specs.Update.{update, below, region};
 ghost use Rattle.definitions.specs.Number.{start};

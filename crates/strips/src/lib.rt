@@ -1,4 +1,6 @@
 // One strip of a call of any of the six routines, and all of them.
+#![tactic(auto)]
+
 ghost use Rattle.std.specs.Prelude.{◌≡◌, ◌+◌, ◌≤◌, ◌<◌, length};
 ghost use Rattle.definitions.specs.Call as Calls;
 ghost use Rattle.definitions.specs.Element as Element;

@@ -1,4 +1,6 @@
 // The table of document 01, through the public calls: for each row its letter, a space, `ok` or `no`, and a line end.
+#![tactic(auto)]
+
 ghost use Rattle.std.specs.Prelude.{◌≡◌, true};
 
 use definitions::RunEnd;

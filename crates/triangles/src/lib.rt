@@ -1,5 +1,7 @@
 // The general multiply in some columns of a triangle. Blocks beside the diagonal are products of packed blocks, as in the kernel; a block on it is cut again
 // and walked.
+#![tactic(auto)]
+
 ghost use Rattle.std.specs.Prelude.{◌≡◌, false, ℕ, ◌+◌, ◌*◌, ◌≤◌, ◌<◌, length};
 ghost use Rattle.arrays.specs.Update.{update, entries, only, corner, trapezoid};
 ghost use Rattle.blocks.specs.Terms.{packed};

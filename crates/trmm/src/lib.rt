@@ -1,5 +1,7 @@
 // TRMM: the update of one strip, in place. B goes by lines, columns for side L and rows for side R; the blocks of a line, or in a tiny call its elements, are taken
 // in such an order that what one reads of the line is still as at entry.
+#![tactic(auto)]
+
 ghost use Rattle.std.specs.Prelude.{◌≡◌, true, false, List, ℕ, ◌+◌, ◌*◌, ◌≤◌, ◌<◌, length, Float};
 ghost use Rattle.arrays.specs.Choice.{if◌then◌else◌};
 ghost use Rattle.arrays.specs.Update.{update};

@@ -1,5 +1,7 @@
 // The terms of a diagonal block for the sums of its own elements. They are made where these stand across, element q of line l at q * 64 + l, so that one column
 // holds an element of all lines. Of op(A) no more is read than its triangle, and of its diagonal nothing where it is unit.
+#![tactic(auto)]
+
 ghost use Rattle.std.specs.Prelude.{◌≡◌, true, false, ℕ, ◌+◌, ◌*◌, ◌≤◌, ◌<◌, length};
 ghost use Rattle.arrays.specs.Update.{update};
 ghost use Rattle.arrays.specs.Fold.{fold};

@@ -1,5 +1,7 @@
 // TRSM: the update of one strip. The unknowns are solved in order: a block of them, and then its terms in the sums of all that are left; in a tiny call one after the
 // other, straight from the arrays. Each function that solves hands back the lowest index at which the diagonal is zero, or one past the last if there is none.
+#![tactic(auto)]
+
 ghost use Rattle.std.specs.Prelude.{◌≡◌, Bool, false, not, ◌&&◌, List, ℕ, ◌+◌, ◌*◌, ◌≤◌, ◌<◌, length, Float};
 ghost use Rattle.arrays.specs.Update.{update};
 ghost use Rattle.arrays.specs.Search as Search;

@@ -1,5 +1,7 @@
 // The unknowns of one diagonal block, whose lines stand across: they are solved in order, a group of them and then the next. Each function that solves hands back
 // the lowest index at which the diagonal is zero, or one past the last if there is none.
+#![tactic(auto)]
+
 ghost use Rattle.std.specs.Prelude.{◌≡◌, false, ℕ, ◌+◌, ◌*◌, ◌≤◌, ◌<◌, length};
 ghost use Rattle.arrays.specs.Update.{update, below};
 ghost use Rattle.arrays.specs.Search as Search;

@@ -1,5 +1,7 @@
 // The product of two packed blocks in a triangle on the diagonal. It is cut into small triangles, which are walked, and rectangles beside them, which are
 // products of packed blocks.
+#![tactic(auto)]
+
 ghost use Rattle.std.specs.Prelude.{◌≡◌, ◌+◌, ◌*◌, ◌≤◌, ◌<◌, length};
 ghost use Rattle.arrays.specs.Update.{update, entries, only, trapezoid, corner};
 ghost use Rattle.blocks.specs.Terms.{packed, AtOnce};
