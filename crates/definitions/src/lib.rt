@@ -4,7 +4,7 @@
 ghost use Rattle.std.specs.Prelude.{◌≡◌};
 ghost use Rattle.definitions.specs.Number as Number;
 
-#[derive(Drop)]
+#[derive(Clone, Copy)]
 pub enum Routine {
     Gemm,
     Symm,
@@ -14,32 +14,32 @@ pub enum Routine {
     Trsm,
 }
 
-#[derive(Drop)]
+#[derive(Clone, Copy)]
 pub enum Side {
     Left,
     Right,
 }
 
-#[derive(Drop)]
+#[derive(Clone, Copy)]
 pub enum Triangle {
     Lower,
     Upper,
 }
 
-#[derive(Drop)]
+#[derive(Clone, Copy)]
 pub enum Transpose {
     No,
     Yes,
 }
 
-#[derive(Drop)]
+#[derive(Clone, Copy)]
 pub enum Diagonal {
     Unit,
     Nonunit,
 }
 
 // The three cases of alpha or beta.
-#[derive(Drop)]
+#[derive(Clone, Copy)]
 pub enum Scalar {
     Zero,
     One,
@@ -47,7 +47,7 @@ pub enum Scalar {
 }
 
 // The arguments of a call but for w and r, as they are given, with the lengths of the arrays. Those that the routine lacks are not read.
-#[derive(Drop)]
+#[derive(Clone, Copy)]
 pub struct Args {
     pub routine: Routine,
     pub side: i32,
@@ -69,7 +69,7 @@ pub struct Args {
 }
 
 // A call: its options beside its sizes. Those that the routine lacks are not read, but for m of SYRK and SYR2K, which is n.
-#[derive(Drop)]
+#[derive(Clone, Copy)]
 pub struct Call {
     pub routine: Routine,
     pub side: Side,
@@ -88,14 +88,14 @@ pub struct Call {
 }
 
 // The rows and columns that a matrix is stored with.
-#[derive(Drop)]
+#[derive(Clone, Copy)]
 pub struct Shape {
     pub rows: u32,
     pub cols: u32,
 }
 
 // The answer of the argument check.
-#[derive(Drop)]
+#[derive(Clone, Copy)]
 pub enum Checked {
     Refused(u32),
     Idle,
@@ -104,14 +104,14 @@ pub enum Checked {
 
 // What a solve hands back: 0 or its number, and the lowest diagonal index at which A is zero, or -1.
 #[repr(C)]
-#[derive(Drop)]
+#[derive(Clone, Copy)]
 pub struct SolveEnd {
     pub number: i32,
     pub zero: i32,
 }
 
 // What a call of many right sides has beside the arguments of its GEMM, as they are given: how many there are, and the strides of their B and C.
-#[derive(Drop)]
+#[derive(Clone, Copy)]
 pub struct Items {
     pub count: i32,
     pub strideb: i32,
@@ -120,7 +120,7 @@ pub struct Items {
 
 // What such a call hands back: 0 or its number, and how many elements were copied.
 #[repr(C)]
-#[derive(Drop)]
+#[derive(Clone, Copy)]
 pub struct ManyEnd {
     pub number: i32,
     pub copied: u64,
@@ -128,7 +128,7 @@ pub struct ManyEnd {
 
 // What a run hands back: 0 or its number, the cursor, the steps made, and the first record whose solve had a zero on the diagonal, or -1.
 #[repr(C)]
-#[derive(Drop)]
+#[derive(Clone, Copy)]
 pub struct RunEnd {
     pub number: i32,
     pub p: i32,

@@ -14,7 +14,7 @@ use lines::triangle;
 use packing::factor;
 
 // What the sum of an element starts with: the element's old value, +0.0, or +0.0 and then the element's own term, whose coefficient is handed over.
-#[derive(Drop)]
+#[derive(Clone, Copy)]
 pub enum Start {
     Value,
     Zero,
@@ -22,7 +22,7 @@ pub enum Start {
 }
 
 // How it ends: as it is, with the element's own term, or divided by a number.
-#[derive(Drop)]
+#[derive(Clone, Copy)]
 pub enum End {
     Sum,
     OwnLast(f64),
@@ -30,7 +30,7 @@ pub enum End {
 }
 
 // The sums of one element of four lines.
-#[derive(Drop)]
+#[derive(Clone, Copy)]
 pub struct Lanes {
     e: f64,
     f: f64,

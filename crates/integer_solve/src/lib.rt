@@ -10,7 +10,7 @@ ghost use Rattle.integer_solve.specs.Elimination.{triangle, Words, term, room, S
 use definitions::Triangle;
 
 // What a call comes to: X is written, there is none, or the number of a refusal.
-#[derive(Drop)]
+#[derive(Clone, Copy)]
 pub enum Answer {
     Solved,
     None,
@@ -18,7 +18,7 @@ pub enum Answer {
 }
 
 // The value of an unknown: a whole number of 16 bits, if it has one.
-#[derive(Drop)]
+#[derive(Clone, Copy)]
 pub enum Quotient {
     Value(i16),
     NoValue,

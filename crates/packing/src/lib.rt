@@ -7,7 +7,7 @@ pub mod pack;
 pub mod runs;
 
 // How an array holds a factor: as it is, transposed, or symmetric with only one triangle to be read.
-#[derive(Drop)]
+#[derive(Clone, Copy)]
 pub enum Form {
     Plain,
     Transposed,
@@ -16,7 +16,7 @@ pub enum Form {
 }
 
 // How a block can be read: along the array's columns, along its rows, mirrored from one triangle, or entry by entry.
-#[derive(Drop)]
+#[derive(Clone, Copy)]
 pub enum Way {
     Columns,
     Rows,

@@ -12,7 +12,7 @@ ghost use Rattle.records.specs.Judgement as Judgement;
 use definitions::{Args, Call, Checked, Routine, Scalar};
 
 // What the tests of a record come to: refused with a number, or accepted, with nothing to do or with work.
-#[derive(Drop)]
+#[derive(Clone, Copy)]
 pub enum Judged {
     Rejected(u32),
     NoWork(Call),
@@ -20,7 +20,7 @@ pub enum Judged {
 }
 
 // A matrix of a record: the number of its array, and the offset of its first element.
-#[derive(Drop)]
+#[derive(Clone, Copy)]
 pub struct Part {
     pub array: usize,
     pub offset: usize,

@@ -21,7 +21,7 @@ use definitions::{Call, RunEnd};
 use records::{Judged, Part};
 
 // Where the machine is after a step, and whether the step was the last strip of a solve with a zero on the diagonal.
-#[derive(Drop)]
+#[derive(Clone, Copy)]
 pub struct Cursor {
     pub p: usize,
     pub s: usize,
@@ -29,7 +29,7 @@ pub struct Cursor {
 }
 
 // Where a run of so many steps ended, and the first record whose solve had a zero on the diagonal, or -1.
-#[derive(Drop)]
+#[derive(Clone, Copy)]
 pub struct Went {
     pub p: usize,
     pub s: usize,
