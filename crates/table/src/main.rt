@@ -4,6 +4,7 @@
 ghost use Rattle.std.specs.Prelude.{◌≡◌, true};
 
 use definitions::RunEnd;
+use std::io;
 
 const L: i32 = 76;
 
@@ -264,26 +265,23 @@ fn row_m() -> bool {
 
 // ---- printing
 
-fn print(letter: u8, ok: bool) {
-    if ok {
-        io::write_all(1, &[letter, b' ', b'o', b'k', b'\n']);
-    } else {
-        io::write_all(1, &[letter, b' ', b'n', b'o', b'\n']);
-    }
+fn word(ok: bool) -> &'static str {
+    if ok { "ok" } else { "no" }
 }
 
-fn main() {
-    print(b'a', row_a());
-    print(b'b', row_b());
-    print(b'c', row_c());
-    print(b'd', row_d());
-    print(b'e', row_e());
-    print(b'f', row_f());
-    print(b'g', row_g());
-    print(b'h', row_h());
-    print(b'i', row_i());
-    print(b'j', row_j());
-    print(b'k', row_k());
-    print(b'l', row_l());
-    print(b'm', row_m());
+fn main(rt: HostRuntime) -> io::Result<()> {
+    println!(rt; "a {}", word(row_a()))?;
+    println!(rt; "b {}", word(row_b()))?;
+    println!(rt; "c {}", word(row_c()))?;
+    println!(rt; "d {}", word(row_d()))?;
+    println!(rt; "e {}", word(row_e()))?;
+    println!(rt; "f {}", word(row_f()))?;
+    println!(rt; "g {}", word(row_g()))?;
+    println!(rt; "h {}", word(row_h()))?;
+    println!(rt; "i {}", word(row_i()))?;
+    println!(rt; "j {}", word(row_j()))?;
+    println!(rt; "k {}", word(row_k()))?;
+    println!(rt; "l {}", word(row_l()))?;
+    println!(rt; "m {}", word(row_m()))?;
+    Ok(())
 }
