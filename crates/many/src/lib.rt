@@ -8,7 +8,7 @@ ghost use Rattle.arrays.specs.Choice.{if◌then◌else◌};
 ghost use Rattle.arrays.specs.Fold.{fold};
 ghost use Rattle.arrays.specs.Update.{update, region};
 ghost use Rattle.definitions.specs.Storage.{stored, needed};
-ghost use Rattle.definitions.specs.Element.{result};
+ghost use Rattle.definitions.specs.Element as Element;
 ghost use Rattle.definitions.specs.Check as Check;
 ghost use Rattle.definitions.specs.Many as Many;
 ghost use Rattle.many.specs.Panel.{panel_size, over_panel, EachFits, Prepared, OfLast};
@@ -20,7 +20,7 @@ use definitions::{Args, Call, Items, ManyEnd, Routine, Scalar};
 
 // The elements that an array has from its last item on.
 fn from_last(len: usize, stride: i32, count: i32) -> usize
-    ensures* { λ r. ⌜ r ≡ Many.from_last len stride count ⌝ }
+    ensures { result ≡ Many.from_last len stride count }
 {
     let items = arguments::size(count);
     if items == 0 {
@@ -35,7 +35,7 @@ fn from_last(len: usize, stride: i32, count: i32) -> usize
 
 // A count that is not 0 to 1,000.
 fn bad_count(count: i32) -> bool
-    ensures* { λ r. ⌜ r ≡ Many.bad_count count ⌝ }
+    ensures { result ≡ Many.bad_count count }
 {
     let n = arguments::size(count);
     arguments::negative(count) | (1000 < n)
@@ -43,7 +43,7 @@ fn bad_count(count: i32) -> bool
 
 // A negative stride, or one of C below the needed length of C.
 fn bad_stride(c: Call, t: Items) -> bool
-    ensures* { λ r. ⌜ r ≡ Many.bad_stride c t ⌝ }
+    ensures { result ≡ Many.bad_stride c t }
 {
     let stride = arguments::size(t.stridec) as usize;
     let shape = arguments::shape_c(c);
@@ -53,7 +53,7 @@ fn bad_stride(c: Call, t: Items) -> bool
 
 // The elements of the panel.
 fn panel_size(c: Call) -> usize
-    ensures* { λ r. ⌜ r ≡ panel_size c ⌝ }
+    ensures { result ≡ panel_size c }
 {
     if arguments::untested(c) {
         return 0;
@@ -63,7 +63,7 @@ fn panel_size(c: Call) -> usize
 
 // The elements that are copied: those of the panel, unless A's own part is the panel.
 fn copied(c: Call, count: u32) -> usize
-    ensures* { λ r. ⌜ r ≡ Many.copied c count ⌝ }
+    ensures { result ≡ Many.copied c count }
 {
     if count == 0 {
         return 0;
@@ -77,7 +77,7 @@ fn copied(c: Call, count: u32) -> usize
 // The number of a refusal, or 0.
 fn refusal(w: i32, r: i32, g: Args, c: Call, t: Items, pack: usize) -> u8
     requires { c ≡ Check.call_of g }
-    ensures* { λ x. ⌜ x ≡ Many.refusal w r g t pack ⌝ }
+    ensures { result ≡ Many.refusal w r g t pack }
 {
     if arguments::bad_width(w) | arguments::bad_width(r) {
         return 30;
@@ -111,7 +111,7 @@ fn refusal(w: i32, r: i32, g: Args, c: Call, t: Items, pack: usize) -> u8
 // The first k columns of A, of m elements each, one after the other.
 fn pack_columns(pack: &mut [f64], a: &[f64], m: usize, k: usize, lda: usize)
     requires { (0 < m) × (m ≤ lda) × (k * m ≤ length pack.old) × (needed lda m k ≤ length a.now) }
-    ensures* { λ _. ⌜ pack.new ≡ update (region m m k (λ i l _. stored nan a.now lda i l)) pack.old ⌝ }
+    ensures { pack.new ≡ update (region m m k (λ i l _. stored nan a.now lda i l)) pack.old }
 {
     let mut l = 0;
     while l < k {
@@ -123,7 +123,7 @@ fn pack_columns(pack: &mut [f64], a: &[f64], m: usize, k: usize, lda: usize)
 // The n elements that are copied, if any.
 fn fill(pack: &mut [f64], a: &[f64], call: Call, n: usize)
     requires { (0 < n → (n ≡ call.m * call.k) × (0 < call.m) × (call.m ≤ call.lda) × (needed call.lda call.m call.k ≤ length a.now)) × (n ≤ length pack.old) }
-    ensures* { λ _. ⌜ pack.new ≡ Many.packed call a.now n pack.old ⌝ }
+    ensures { pack.new ≡ Many.packed call a.now n pack.old }
 {
     if n == 0 {
         return;
@@ -134,7 +134,7 @@ fn fill(pack: &mut [f64], a: &[f64], call: Call, n: usize)
 // The panel is a part of A, or of the pack area.
 fn panel<'a>(own: bool, a: &'a [f64], pack: &'a [f64], size: usize) -> &'a [f64]
     requires { size ≤ length (if own then a.now else pack.now) }
-    ensures* { λ r. ⌜ r.now ≡ take size (if own then a.now else pack.now) ⌝ }
+    ensures { result.now ≡ take size (if own then a.now else pack.now) }
 {
     if own {
         return &a[..size];
@@ -144,7 +144,7 @@ fn panel<'a>(own: bool, a: &'a [f64], pack: &'a [f64], size: usize) -> &'a [f64]
 
 // The call with the panel for its A.
 fn over_panel(c: Call) -> Call
-    ensures* { λ r. ⌜ r ≡ over_panel c ⌝ }
+    ensures { result ≡ over_panel c }
 {
     let routine = c.routine;
     let side = c.side;
@@ -187,7 +187,7 @@ fn item(
 )
     requires fromc_in_bounds { (fromc ≤ length c.old) × FitsArrays call (length a.now) (length b.now - fromb) (length c.old - fromc) }
     requires w_nonzero { (0 < w) × (w ≤ 64) × (0 < r) × (r ≤ 64) }
-    ensures* { λ _. ⌜ c.new ≡ take fromc c.old ++ result call a.now (drop fromb b.now) (drop fromc c.old) ⌝ }
+    ensures { c.new ≡ take fromc c.old ++ Element.result call a.now (drop fromb b.now) (drop fromc c.old) }
 {
     let x = arrays::smaller(fromb, b.len());
     strips::complete(call, a, &b[x..], &mut c[fromc..], w, r);
@@ -207,7 +207,7 @@ fn items(
 )
     requires each_fits { EachFits call (length a.now) (length b.now) (length c.old) strideb stridec count }
     requires w_nonzero { (0 < w) × (w ≤ 64) × (0 < r) × (r ≤ 64) }
-    ensures* { λ _. ⌜ c.new ≡ fold (Many.item (result call a.now) strideb stridec b.now) count c.old ⌝ }
+    ensures { c.new ≡ fold (Many.item (Element.result call a.now) strideb stridec b.now) count c.old }
 {
     let mut i = 0;
     while i < count {
@@ -234,7 +234,7 @@ fn all<'a>(
 )
     requires prepared { (0 < count) → Check.idle call ≡ false → Prepared call own a.now pack.now (length b.now) (length c.old) strideb stridec count }
     requires w_nonzero { (0 < w) × (w ≤ 64) × (0 < r) × (r ≤ 64) }
-    ensures* { λ _. ⌜ c.new ≡ fold (Many.item (result call a.now) strideb stridec b.now) count c.old ⌝ }
+    ensures { c.new ≡ fold (Many.item (Element.result call a.now) strideb stridec b.now) count c.old }
 {
     if count == 0 {
         return;
@@ -261,11 +261,11 @@ fn run(
     pack: &mut [f64],
 ) -> ManyEnd
     requires { OfLast g t (length a.now) (length b.now) (length c.old) }
-    ensures* { λ x. ⌜ (x.number ≡ pos (Many.refusal w r g t (length pack.old))) × (x.copied ≡ Many.copied_by w r g t (length pack.old))
+    ensures { (result.number ≡ pos (Many.refusal w r g t (length pack.old))) × (result.copied ≡ Many.copied_by w r g t (length pack.old))
         × (c.new ≡ (if eqb (Many.refusal w r g t (length pack.old)) 0
-        then fold (Many.item (result (Check.call_of g) a.now) (Check.nat t.strideb) (Check.nat t.stridec) b.now) (Check.nat t.count) c.old
+        then fold (Many.item (Element.result (Check.call_of g) a.now) (Check.nat t.strideb) (Check.nat t.stridec) b.now) (Check.nat t.count) c.old
         else c.old))
-        × (pack.new ≡ Many.packed (Check.call_of g) a.now (Many.copied_by w r g t (length pack.old)) pack.old) ⌝ }
+        × (pack.new ≡ Many.packed (Check.call_of g) a.now (Many.copied_by w r g t (length pack.old)) pack.old) }
 {
     let call = arguments::call_of(g);
     let number = refusal(w, r, g, call, t, pack.len());
@@ -321,9 +321,9 @@ pub fn gemm_many(
     w: i32,
     r: i32,
 ) -> ManyEnd
-    ensures* { λ x. ⌜ (x ≡ (Many.many transb m n k alpha a.now lda b.now ldb strideb beta c.old ldc stridec items pack.old w r).end)
+    ensures { (result ≡ (Many.many transb m n k alpha a.now lda b.now ldb strideb beta c.old ldc stridec items pack.old w r).end)
         × (c.new ≡ (Many.many transb m n k alpha a.now lda b.now ldb strideb beta c.old ldc stridec items pack.old w r).array)
-        × (pack.new ≡ (Many.many transb m n k alpha a.now lda b.now ldb strideb beta c.old ldc stridec items pack.old w r).pack) ⌝ }
+        × (pack.new ≡ (Many.many transb m n k alpha a.now lda b.now ldb strideb beta c.old ldc stridec items pack.old w r).pack) }
 {
     let t = Items {
         count: items,
