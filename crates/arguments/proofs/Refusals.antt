@@ -7,7 +7,7 @@ use Prim.Native.Nat.{ℕ, zero, suc}
 use lib.Dec.{eqb, eqb-suc-zero}
 use lib.IntN.{ℤ}
 use lib.ListN.{get_or}
-use Rattle.arrays.specs.Choice.{if◌then◌else◌}
+use Rattle.std.specs.Prelude.{if◌then◌else◌}
 use Rattle.arrays.proofs.Tests.{by-test}
 use Rattle.definitions.specs.Call.{in_place, empty, shape_a, shape_b, shape_c}
 use Rattle.definitions.specs.Check.{Argument, array-A, array-B, array-C, Place, ◌at◌, places, arrays, short, untested, bad_with, bad, first_bad, bad_width, call_of, refusal}

@@ -1,6 +1,5 @@
 -- Where the strips of a call start.
-use Rattle.std.specs.Prelude.{ℕ, ◌*◌}
-use Rattle.arrays.specs.Choice.{if◌then◌else◌}
+use Rattle.std.specs.Prelude.{ℕ, ◌*◌, if◌then◌else◌}
 use Rattle.definitions.specs.Call.{ld_output, cuts_rows}
 use Rattle.definitions.specs.declared.Call.{Call}
 

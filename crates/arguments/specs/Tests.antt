@@ -1,6 +1,5 @@
 -- The argument check as its code goes: the rows of the table of places, and the tests in turn, each handing on the number so far.
-use Rattle.std.specs.Prelude.{ℕ, ◌≡◌, Bool, not, ◌||◌, List, [], ◌∷◌, ◌++◌, map, eqb, ℤ, get_or}
-use Rattle.arrays.specs.Choice.{if◌then◌else◌}
+use Rattle.std.specs.Prelude.{ℕ, ◌≡◌, Bool, not, ◌||◌, List, [], ◌∷◌, ◌++◌, map, eqb, ℤ, get_or, if◌then◌else◌}
 use Rattle.definitions.specs.Call.{shape_a, shape_b, shape_c}
 use Rattle.definitions.specs.Check.{Argument, side, uplo, transa, transb, diag, size-m, size-n, size-k, ld-A, ld-B, ld-C, array-A, array-B, array-C, places, arrays, 'N', 'T', 'C', 'L', 'R', 'U', is, bad}
 use Rattle.definitions.specs.declared.Routine.{Routine}

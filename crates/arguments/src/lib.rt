@@ -1,8 +1,7 @@
 // The argument check of the six routines, and the number of strips of a call.
 #![tactic(auto)]
 
-ghost use Rattle.std.specs.Prelude.{◌≡◌, true, false, ◌<◌, eqb};
-ghost use Rattle.arrays.specs.Choice.{if◌then◌else◌};
+ghost use Rattle.std.specs.Prelude.{◌≡◌, true, false, ◌<◌, eqb, if◌then◌else◌};
 ghost use Rattle.definitions.specs.Storage as Storage;
 ghost use Rattle.definitions.specs.Call as Calls;
 ghost use Rattle.definitions.specs.Call.{◌by◌};

@@ -10,7 +10,7 @@ use native.Mathlib.Omega.{arith}
 use lib.Arith.{digits_div, digits_mod}
 use lib.ListN.{length, get_or, get_or-eq_default}
 use borrow.Author.Tests.{lt-ltb, le-ltb, le-leb, lt-leb}
-use Rattle.arrays.specs.Choice.{if◌then◌else◌}
+use Rattle.std.specs.Prelude.{if◌then◌else◌}
 use Rattle.arrays.specs.Update.{EntryMap, Mask, update, entries, only, box, shifted}
 use Rattle.arrays.proofs.Tests.{if-both, if-same}
 use Rattle.arrays.proofs.UpdateLaws.{lt-or-ge, update-then, update_same, update-keep, at-update, length-update}

@@ -8,7 +8,7 @@ use native.Mathlib.Omega.{arith}
 use lib.Dec.{ltb}
 use lib.IntN.{ℤ, pos, negsuc}
 use borrow.Author.Tests.{ltb-true, ltb-false}
-use Rattle.arrays.specs.Choice.{if◌then◌else◌}
+use Rattle.std.specs.Prelude.{if◌then◌else◌}
 use Rattle.arrays.specs.Search.{lowest, Lowest, lower, earlier}
 use Rattle.arrays.proofs.Tests.{and_left, and_right, and-true, or-both, or-first, or-second, if-true, by-test}
 use Rattle.arrays.proofs.UpdateLaws.{lt-or-ge}

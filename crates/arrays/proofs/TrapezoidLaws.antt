@@ -11,7 +11,7 @@ use lib.Dec.{leb, ltb}
 use lib.ListN.{length, take, drop}
 use borrow.Rule.Slice.PartMut.{put_mid}
 use borrow.Author.Tests.{ltb-true, leb-true, lt-ltb, le-ltb, le-leb, lt-leb}
-use Rattle.arrays.specs.Choice.{if◌then◌else◌}
+use Rattle.std.specs.Prelude.{if◌then◌else◌}
 use Rattle.arrays.specs.Update.{EntryMap, update, below, entries, only, box, region, trapezoid, corner}
 use Rattle.arrays.proofs.Tests.{and_left, and_right}
 use Rattle.arrays.proofs.UpdateLaws.{lt-or-ge, same_or_not, below-same}

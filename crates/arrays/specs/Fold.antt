@@ -2,8 +2,7 @@
 --     fold      terms 0 to k - 1 in turn: term l turns the sum e into `step e l`
 --     among     the step that passes over the terms for which a test fails
 --     solved    the first n values of a list each of whose values follows from those before it: value q is `next` of those and q
-use Rattle.std.specs.Prelude.{Bool, List, [], ◌∷◌, ◌++◌, ℕ, zero, suc}
-use Rattle.arrays.specs.Choice.{if◌then◌else◌}
+use Rattle.std.specs.Prelude.{Bool, List, [], ◌∷◌, ◌++◌, ℕ, zero, suc, if◌then◌else◌}
 
 module _ {E : Type 0} where
   unfoldable pub fold : (E → ℕ → E) → ℕ → E → E

@@ -5,8 +5,7 @@
 --     none      the answer where there is no index: −1
 --     answer    the answer for an index below n, or for n
 --     earlier   of two answers the first, or the second if the first is −1
-use Rattle.std.specs.Prelude.{◌≡◌, Bool, true, false, ◌&&◌, ℕ, zero, suc, ◌≤◌, ◌<◌, ltb, ℤ, pos, negsuc}
-use Rattle.arrays.specs.Choice.{if◌then◌else◌}
+use Rattle.std.specs.Prelude.{◌≡◌, Bool, true, false, ◌&&◌, ℕ, zero, suc, ◌≤◌, ◌<◌, ltb, ℤ, pos, negsuc, if◌then◌else◌}
 
 unfoldable pub lowest : (ℕ → Bool) → ℕ → ℕ
 lowest test zero = 0

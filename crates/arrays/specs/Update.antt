@@ -10,8 +10,7 @@
 --                the part has the rows below `rows` and the columns below `cols`
 --     corner     the same from the matrix's first column on
 --     shifted    an entry map of the block that starts at row i₀ and column j₀
-use Rattle.std.specs.Prelude.{Bool, ◌&&◌, List, [], ◌∷◌, ℕ, suc, ◌+◌, ◌-◌, ◌/◌, ◌%◌, leb, ltb}
-use Rattle.arrays.specs.Choice.{if◌then◌else◌}
+use Rattle.std.specs.Prelude.{Bool, ◌&&◌, List, [], ◌∷◌, ℕ, suc, ◌+◌, ◌-◌, ◌/◌, ◌%◌, leb, ltb, if◌then◌else◌}
 
 unfoldable pub update_from : {A : Type 0} → ℕ → (ℕ → A → A) → List A → List A
 update_from k f [] = []

@@ -2,8 +2,8 @@
 // indices.
 #![tactic(auto)]
 
-ghost use Rattle.std.specs.Prelude.{◌≡◌, ◌≤◌, ◌<◌};
-ghost use Rattle.arrays.specs.Choice.{if◌then◌else◌, least};
+ghost use Rattle.std.specs.Prelude.{◌≡◌, ◌≤◌, ◌<◌, if◌then◌else◌};
+ghost use Rattle.arrays.specs.Choice.{least};
 
 // The first if the test holds, else the second.
 pub fn pick(test: bool, x: usize, y: usize) -> usize

@@ -9,7 +9,7 @@ use lib.Dec.{eqb}
 use lib.IntN.{ℤ, pos}
 use lib.Ieee.{Float}
 use borrow.Author.Tests.{eqb-true, not-true}
-use Rattle.arrays.specs.Choice.{if◌then◌else◌}
+use Rattle.std.specs.Prelude.{if◌then◌else◌}
 use Rattle.arrays.specs.Search.{none}
 use Rattle.arrays.proofs.Tests.{and_left, and_right, or-both, if-true, if-false, by-test}
 use Rattle.arrays.proofs.FoldLaws.{fold-none}

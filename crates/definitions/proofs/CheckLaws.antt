@@ -10,7 +10,7 @@ use lib.Dec.{leb, eqb, eqb-suc-zero}
 use lib.IntN.{ℤ, pos, negsuc}
 use lib.ListN.{get_or}
 use borrow.Author.Tests.{eqb-true, eqb-false, leb-true, ltb-false}
-use Rattle.arrays.specs.Choice.{if◌then◌else◌}
+use Rattle.std.specs.Prelude.{if◌then◌else◌}
 use Rattle.arrays.proofs.Tests.{and_left, and_right, or_left, or_right}
 use Rattle.definitions.specs.Call.{in_place, shape_b}
 use Rattle.definitions.specs.Check.{Argument, side, uplo, transa, transb, diag, size-m, size-n, size-k, ld-A, ld-B, ld-C, array-A, array-B, array-C, Place, places, arrays, nat, bad_ld, bad, bad_with, first_bad, bad_width, width, refusal, call_of, idle, checked}

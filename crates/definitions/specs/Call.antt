@@ -1,6 +1,5 @@
 -- A call: its routine, the shapes of its matrices, what it writes, and its strips.
-use Rattle.std.specs.Prelude.{ℕ, ◌+◌, ◌-◌, ◌/◌, Bool, true, false, ◌&&◌, ◌||◌, leb, ltb, eqb}
-use Rattle.arrays.specs.Choice.{if◌then◌else◌}
+use Rattle.std.specs.Prelude.{ℕ, ◌+◌, ◌-◌, ◌/◌, Bool, true, false, ◌&&◌, ◌||◌, leb, ltb, eqb, if◌then◌else◌}
 use Rattle.arrays.specs.Update.{Mask}
 use Rattle.definitions.specs.Number.{is_zero}
 use Rattle.definitions.specs.Storage.{inside}

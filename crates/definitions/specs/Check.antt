@@ -1,6 +1,5 @@
 -- The argument check of a direct call: codes, the table of places, the tests and their order, and its answer.
-use Rattle.std.specs.Prelude.{ℕ, zero, suc, ◌+◌, max, Bool, true, false, not, ◌&&◌, ◌||◌, List, [], ◌∷◌, ◌++◌, ltb, eqb, ℤ, pos, negsuc, Float}
-use Rattle.arrays.specs.Choice.{if◌then◌else◌}
+use Rattle.std.specs.Prelude.{ℕ, zero, suc, ◌+◌, max, Bool, true, false, not, ◌&&◌, ◌||◌, List, [], ◌∷◌, ◌++◌, ltb, eqb, ℤ, pos, negsuc, Float, if◌then◌else◌}
 use Rattle.arrays.specs.Search.{none}
 use Rattle.definitions.specs.Number.{is_one}
 use Rattle.definitions.specs.Storage.{needed}

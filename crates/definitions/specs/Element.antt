@@ -1,9 +1,8 @@
 -- The value of each element: the fold of its terms, which document 01 calls the ladder of one element. And what a strip, and a whole call,
 -- leaves in the output's array, and what a solve reports.
-use Rattle.std.specs.Prelude.{ℕ, ◌-◌, ◌≤◌, Bool, true, false, ◌||◌, ◌≡◌, List, [], ◌∷◌, ◌++◌, ℤ, get_or, length, take, drop, Float}
+use Rattle.std.specs.Prelude.{ℕ, ◌-◌, ◌≤◌, Bool, true, false, ◌||◌, ◌≡◌, List, [], ◌∷◌, ◌++◌, ℤ, get_or, length, take, drop, Float, if◌then◌else◌}
 use Rattle.std.specs.Float.Ieee as Ieee
 use Rattle.std.specs.Float.{nan}
-use Rattle.arrays.specs.Choice.{if◌then◌else◌}
 use Rattle.arrays.specs.Update.{EntryMap, update, entries, only}
 use Rattle.arrays.specs.Fold.{fold, among, solved}
 use Rattle.arrays.specs.Search.{lowest, none, answer}

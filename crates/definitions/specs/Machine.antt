@@ -1,6 +1,5 @@
 -- The plain machine, over any type M of arrays and whatever its records do.
-use Rattle.std.specs.Prelude.{ℕ, zero, suc, Bool, false, not, ◌&&◌, List, ltb, eqb, ℤ, pos, set}
-use Rattle.arrays.specs.Choice.{if◌then◌else◌}
+use Rattle.std.specs.Prelude.{ℕ, zero, suc, Bool, false, not, ◌&&◌, List, ltb, eqb, ℤ, pos, set, if◌then◌else◌}
 use Rattle.arrays.specs.Search.{none, earlier}
 
 -- "Its state: X, Y, Z, answers (i32, one for each record; any further ones stay) and a cursor (p, s)."

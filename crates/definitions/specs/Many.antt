@@ -1,7 +1,6 @@
 -- Document 02, K9: one A, not transposed, and many right sides. Item i has its B from element i·strideb of one array on, and its C from element i·stridec of another.
-use Rattle.std.specs.Prelude.{ℕ, ◌-◌, ◌*◌, Bool, not, ◌&&◌, ◌||◌, List, [], ◌∷◌, ◌++◌, ltb, eqb, ℤ, pos, length, take, drop, Float}
+use Rattle.std.specs.Prelude.{ℕ, ◌-◌, ◌*◌, Bool, not, ◌&&◌, ◌||◌, List, [], ◌∷◌, ◌++◌, ltb, eqb, ℤ, pos, length, take, drop, Float, if◌then◌else◌}
 use Rattle.std.specs.Float.{nan}
-use Rattle.arrays.specs.Choice.{if◌then◌else◌}
 use Rattle.arrays.specs.Update.{update, below, entries}
 use Rattle.arrays.specs.Fold.{fold}
 use Rattle.definitions.specs.Storage.{stored}

@@ -1,8 +1,7 @@
 -- The three cases of a scalar, and the start of an element. (The f64 operations are those of the crate floats.)
-use Rattle.std.specs.Prelude.{Bool, true, false, Float}
+use Rattle.std.specs.Prelude.{Bool, true, false, Float, if◌then◌else◌}
 use Rattle.std.specs.Float.Ieee as Ieee
 use Rattle.floats.specs.Operations.{◌⊗◌, 0f, 1f}
-use Rattle.arrays.specs.Choice.{if◌then◌else◌}
 use Rattle.definitions.specs.declared.Scalar.{Scalar}
 use Rattle.definitions.specs.declared.Scalar.TheVariants.{Zero, One, Other}
 

@@ -1,6 +1,5 @@
 -- Runs of a sheet, and lists of runs.
-use Rattle.std.specs.Prelude.{ℕ, zero, suc, ◌+◌, ◌*◌, Bool, true, not, ◌||◌, List, [], ◌∷◌, leb, ltb, eqb, ℤ, pos, negsuc, length}
-use Rattle.arrays.specs.Choice.{if◌then◌else◌}
+use Rattle.std.specs.Prelude.{ℕ, zero, suc, ◌+◌, ◌*◌, Bool, true, not, ◌||◌, List, [], ◌∷◌, leb, ltb, eqb, ℤ, pos, negsuc, length, if◌then◌else◌}
 use Rattle.arrays.specs.Search.{none, earlier}
 use Rattle.definitions.specs.Check.{nat, negative}
 use Rattle.definitions.specs.Machine.{State, strips_of, iterate, made, reported}

@@ -1,9 +1,8 @@
 -- The call sheet: its trailer, its records, and what a record does to the lent arrays.
-use Rattle.std.specs.Prelude.{ℕ, zero, suc, ◌+◌, ◌-◌, ◌*◌, Bool, false, not, ◌&&◌, ◌||◌, List, [], ◌∷◌, ◌++◌, leb, ltb, eqb, ℤ, pos, negsuc, get_or, length, take, drop, Float}
+use Rattle.std.specs.Prelude.{ℕ, zero, suc, ◌+◌, ◌-◌, ◌*◌, Bool, false, not, ◌&&◌, ◌||◌, List, [], ◌∷◌, ◌++◌, leb, ltb, eqb, ℤ, pos, negsuc, get_or, length, take, drop, Float, if◌then◌else◌}
 use Rattle.std.proofs.Math.Option.{Option, none, some}
 use Rattle.std.proofs.Math.ListN.{get_elem?}
 use Rattle.std.specs.Float.{nan}
-use Rattle.arrays.specs.Choice.{if◌then◌else◌}
 use Rattle.definitions.specs.Number.{scalar}
 use Rattle.definitions.specs.Call.{in_place, strips}
 use Rattle.definitions.specs.Element.{strip, zero_of}

@@ -1,6 +1,5 @@
 -- Storage of a matrix, and how its entries are read: op(A), the mirrored triangle, the unit diagonal.
-use Rattle.std.specs.Prelude.{ℕ, zero, suc, ◌+◌, ◌*◌, Bool, List, leb, eqb, get_or}
-use Rattle.arrays.specs.Choice.{if◌then◌else◌}
+use Rattle.std.specs.Prelude.{ℕ, zero, suc, ◌+◌, ◌*◌, Bool, List, leb, eqb, get_or, if◌then◌else◌}
 use Rattle.definitions.specs.declared.Triangle.{Triangle}
 use Rattle.definitions.specs.declared.Triangle.TheVariants.{Lower, Upper}
 use Rattle.definitions.specs.declared.Transpose.{Transpose}

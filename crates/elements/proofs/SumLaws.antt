@@ -12,7 +12,7 @@ use lib.Ieee.{Float, nan}
 use lib.ListN.{length, get_or, take, drop, set, length-set}
 use lib.Seq.{get_or-set_same, get_or-set_other}
 use borrow.Rule.Slice.PartMut.{put_mid}
-use Rattle.arrays.specs.Choice.{if◌then◌else◌}
+use Rattle.std.specs.Prelude.{if◌then◌else◌}
 use Rattle.arrays.specs.Update.{update, entries, only, box, region}
 use Rattle.arrays.specs.Fold.{fold}
 use Rattle.arrays.proofs.UpdateLaws.{lt-or-ge, same_or_not, length-update, at-update, is-update}

@@ -4,8 +4,7 @@
 --     finished  what the sum e becomes at its end
 --     line_sum   the whole of it: the k-th of the `count` terms has the coefficient w k and the value x k
 --     Summed    c is b, but for element i of each line, which is its sum: the k-th term is that of element p k
-use Rattle.std.specs.Prelude.{Bool, true, false, ◌≡◌, List, ℕ, Float}
-use Rattle.arrays.specs.Choice.{if◌then◌else◌}
+use Rattle.std.specs.Prelude.{Bool, true, false, ◌≡◌, List, ℕ, Float, if◌then◌else◌}
 use Rattle.arrays.specs.Update.{update}
 use Rattle.arrays.specs.Fold.{fold}
 use Rattle.floats.specs.Array.{at}

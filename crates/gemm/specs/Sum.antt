@@ -1,7 +1,6 @@
 -- A product that is added to its start.
 --     summed   the start, and unless alpha is zero all terms of alpha times L times R after it
-use Rattle.std.specs.Prelude.{ℕ, Float, false}
-use Rattle.arrays.specs.Choice.{if◌then◌else◌}
+use Rattle.std.specs.Prelude.{ℕ, Float, false, if◌then◌else◌}
 use Rattle.arrays.specs.Update.{EntryMap}
 use Rattle.definitions.specs.Number.{is_zero, factor, start}
 use Rattle.definitions.specs.declared.Scalar.{Scalar}

@@ -9,7 +9,7 @@ use lib.Dec.{ltb, eqb}
 use lib.IntN.{ℤ}
 use lib.ListN.{length}
 use borrow.Author.Tests.{ltb-false, eqb-true, not-false}
-use Rattle.arrays.specs.Choice.{if◌then◌else◌}
+use Rattle.std.specs.Prelude.{if◌then◌else◌}
 use Rattle.arrays.proofs.Tests.{or_left, or_right}
 use Rattle.definitions.specs.Check.{nat, 'L', 'U', is}
 use Rattle.integer_solve.specs.Equations.{bad_order, bad_length, zero_diagonal, refusal}

@@ -12,8 +12,7 @@
 --     taken       the remainders once unknown j has the value x
 --     QuotientOf  what the quotient of s by d is
 --     Eliminated  what the elimination comes to: X in the first n places, or there is none
-use Rattle.std.specs.Prelude.{ℕ, ◌+◌, ◌≤◌, ◌<◌, ◌≡◌, Bool, true, false, List, leb, ltb, eqb, ℤ, pos, nat_abs, ◌-ℤ◌, ◌*ℤ◌, get_or}
-use Rattle.arrays.specs.Choice.{if◌then◌else◌}
+use Rattle.std.specs.Prelude.{ℕ, ◌+◌, ◌≤◌, ◌<◌, ◌≡◌, Bool, true, false, List, leb, ltb, eqb, ℤ, pos, nat_abs, ◌-ℤ◌, ◌*ℤ◌, get_or, if◌then◌else◌}
 use Rattle.definitions.specs.declared.Triangle.{Triangle}
 use Rattle.definitions.specs.declared.Triangle.TheVariants.{Lower, Upper}
 use Rattle.integer_solve.specs.Equations.{Word, Solves, entry, left_side}

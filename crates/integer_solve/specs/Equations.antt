@@ -1,6 +1,5 @@
 -- Document 02, K8: the integer column X with AX = B, A triangular, over whole numbers.
-use Rattle.std.specs.Prelude.{ℕ, ◌*◌, ◌<◌, ◌≡◌, Bool, not, ◌||◌, List, ltb, eqb, ℤ, pos, negsuc, nat_abs, ◌+ℤ◌, ◌*ℤ◌, length, get_or, ◌≤ℤ◌}
-use Rattle.arrays.specs.Choice.{if◌then◌else◌}
+use Rattle.std.specs.Prelude.{ℕ, ◌*◌, ◌<◌, ◌≡◌, Bool, not, ◌||◌, List, ltb, eqb, ℤ, pos, negsuc, nat_abs, ◌+ℤ◌, ◌*ℤ◌, length, get_or, ◌≤ℤ◌, if◌then◌else◌}
 use Rattle.arrays.specs.Fold.{fold}
 use Rattle.arrays.specs.Search.{lowest, none}
 use Rattle.definitions.specs.Check.{nat, 'L', 'U', is, uplo_of}

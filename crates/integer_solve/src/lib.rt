@@ -1,8 +1,7 @@
 // The integer column X with AX = B, A triangular, over whole numbers: the X in signed 16-bit words, or that there is none.
 #![tactic(auto)]
 
-ghost use Rattle.std.specs.Prelude.{◌≡◌, true, false, ◌+◌, ◌*◌, ◌≤◌, ◌<◌, pos, nat_abs, ◌-ℤ◌, ◌*ℤ◌, length, get_or};
-ghost use Rattle.arrays.specs.Choice.{if◌then◌else◌};
+ghost use Rattle.std.specs.Prelude.{◌≡◌, true, false, ◌+◌, ◌*◌, ◌≤◌, ◌<◌, pos, nat_abs, ◌-ℤ◌, ◌*ℤ◌, length, get_or, if◌then◌else◌};
 ghost use Rattle.arrays.specs.Update.{update, below};
 ghost use Rattle.integer_solve.specs.Equations as Equations;
 ghost use Rattle.integer_solve.specs.Elimination.{triangle, Words, term, room, Small, Grown, first_open, end_open, less_term, taken, QuotientOf, Eliminated};

@@ -10,7 +10,7 @@ use native.Mathlib.Omega.{arith}
 use lib.ListN.{length, get_or, take, drop}
 use borrow.Rule.Slice.PartMut.{put_mid}
 use borrow.Author.Tests.{lt-ltb, le-ltb, le-leb, lt-leb}
-use Rattle.arrays.specs.Choice.{if◌then◌else◌}
+use Rattle.std.specs.Prelude.{if◌then◌else◌}
 use Rattle.arrays.specs.Update.{EntryMap, update, entries, region}
 use Rattle.arrays.proofs.UpdateLaws.{lt-or-ge, length-update, at-update, is-update}
 use Rattle.arrays.proofs.PartLaws.{column-room}

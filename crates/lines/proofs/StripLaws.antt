@@ -9,7 +9,7 @@ use native.Mathlib.Omega.{arith}
 use lib.ListN.{drop}
 use lib.Seq.{get_or-drop}
 use lib.Ieee.{Float, nan}
-use Rattle.arrays.specs.Choice.{if◌then◌else◌}
+use Rattle.std.specs.Prelude.{if◌then◌else◌}
 use Rattle.arrays.specs.Update.{update, region}
 use Rattle.floats.specs.Array.{at}
 use Rattle.definitions.specs.Number.{is_zero}

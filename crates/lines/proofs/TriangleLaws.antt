@@ -10,7 +10,7 @@ use lib.ListN.{length, get_or, take, drop, get_or-append}
 use lib.Seq.{length-take-le, get_or-take, get_or-append-add}
 use lib.Ieee.{Float, nan}
 use borrow.Rule.Slice.PartMut.{put_mid, same_len_mid}
-use Rattle.arrays.specs.Choice.{if◌then◌else◌}
+use Rattle.std.specs.Prelude.{if◌then◌else◌}
 use Rattle.arrays.specs.Update.{EntryMap, update, below, only, box, region}
 use Rattle.arrays.proofs.UpdateLaws.{lt-or-ge, length-update, at-update, below_in}
 use Rattle.arrays.proofs.EntryLaws.{entry_kept, only-keep}

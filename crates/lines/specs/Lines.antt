@@ -11,8 +11,7 @@
 --     Beside       element p comes after element i, or before it
 --     RowOf        a row of n coefficients, by the order of the terms, that has the elements below `count` of a for the elements from lo on
 --     ColumnOf     a buffer that has the elements below `count` of a as the q-th coefficients of the rows from lo on, and no other coefficient that is new
-use Rattle.std.specs.Prelude.{Bool, true, false, not, ◌&&◌, ◌≡◌, List, ℕ, ◌+◌, ◌*◌, ◌≤◌, ◌<◌, leb, ltb, length, Float}
-use Rattle.arrays.specs.Choice.{if◌then◌else◌}
+use Rattle.std.specs.Prelude.{Bool, true, false, not, ◌&&◌, ◌≡◌, List, ℕ, ◌+◌, ◌*◌, ◌≤◌, ◌<◌, leb, ltb, length, Float, if◌then◌else◌}
 use Rattle.arrays.specs.Update.{region}
 use Rattle.floats.specs.Array.{at}
 use Rattle.floats.specs.Operations.{◌⊕◌, ◌⊗◌}

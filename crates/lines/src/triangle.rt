@@ -1,6 +1,5 @@
 // The coefficients of the terms within a diagonal block: one triangle of op(A), without its diagonal.
-ghost use Rattle.std.specs.Prelude.{◌≡◌, ℕ, ◌+◌, ◌-◌, ◌*◌, ◌≤◌, ◌<◌, length};
-ghost use Rattle.arrays.specs.Choice.{if◌then◌else◌};
+ghost use Rattle.std.specs.Prelude.{◌≡◌, ℕ, ◌+◌, ◌-◌, ◌*◌, ◌≤◌, ◌<◌, length, if◌then◌else◌};
 ghost use Rattle.floats.specs.Array.{at};
 ghost use Rattle.packing.specs.Factor.{index_of, entry_of, turn};
 ghost use Rattle.forms.specs.Forms.{op_form};

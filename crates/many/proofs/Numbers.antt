@@ -7,7 +7,7 @@ use mathlib.Core.List.{List, [], ◌∷◌}
 use native.Mathlib.Omega.{arith}
 use lib.Dec.{ltb, eqb}
 use borrow.Author.Tests.{eq-eqb, ne_eqb, le-ltb}
-use Rattle.arrays.specs.Choice.{if◌then◌else◌}
+use Rattle.std.specs.Prelude.{if◌then◌else◌}
 use Rattle.arrays.proofs.Tests.{if-true, if-false}
 use Rattle.definitions.specs.Check.{nat, first_bad, places, arrays, call_of}
 use Rattle.definitions.specs.Many.{copies, copied, bad_count, bad_stride, first_number}

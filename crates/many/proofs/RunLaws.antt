@@ -12,7 +12,7 @@ use lib.ListN.{length, get_or}
 use lib.Seq.{get_or-take}
 use lib.Ieee.{Float, nan}
 use borrow.Author.Tests.{eq-eqb, ne_eqb, eqb-true, not-true}
-use Rattle.arrays.specs.Choice.{if◌then◌else◌}
+use Rattle.std.specs.Prelude.{if◌then◌else◌}
 use Rattle.arrays.specs.Fold.{fold}
 use Rattle.arrays.proofs.Tests.{and_left, or_left, or_right, or-both, if-true, if-false, by-test}
 use Rattle.arrays.proofs.UpdateLaws.{length-update, at-update, below_in}

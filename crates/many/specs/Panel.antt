@@ -1,7 +1,6 @@
 -- The panel that all items read, and what the arrays of the items have room for.
-use Rattle.std.specs.Prelude.{ℕ, ◌-◌, ◌*◌, ◌≤◌, ◌<◌, ◌≡◌, Bool, false, List, length, take, Float}
+use Rattle.std.specs.Prelude.{ℕ, ◌-◌, ◌*◌, ◌≤◌, ◌<◌, ◌≡◌, Bool, false, List, length, take, Float, if◌then◌else◌}
 use Rattle.std.specs.Float.{nan}
-use Rattle.arrays.specs.Choice.{if◌then◌else◌}
 use Rattle.definitions.specs.Number.{is_zero}
 use Rattle.definitions.specs.Storage.{stored}
 use Rattle.definitions.specs.Check.{untested, call_of}

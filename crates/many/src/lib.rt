@@ -2,9 +2,8 @@
 // pack area. Each item is a GEMM of its own over that panel.
 #![tactic(auto)]
 
-ghost use Rattle.std.specs.Prelude.{◌≡◌, false, ◌++◌, ◌-◌, ◌*◌, ◌≤◌, ◌<◌, eqb, pos, length, take, drop};
+ghost use Rattle.std.specs.Prelude.{◌≡◌, false, ◌++◌, ◌-◌, ◌*◌, ◌≤◌, ◌<◌, eqb, pos, length, take, drop, if◌then◌else◌};
 ghost use Rattle.std.specs.Float.{nan};
-ghost use Rattle.arrays.specs.Choice.{if◌then◌else◌};
 ghost use Rattle.arrays.specs.Fold.{fold};
 ghost use Rattle.arrays.specs.Update.{update, region};
 ghost use Rattle.definitions.specs.Storage.{stored, needed};

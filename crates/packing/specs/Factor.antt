@@ -8,8 +8,7 @@
 --     Within    these indices are places of an array of len elements
 --     is_mirrored, is_lower, mirrored_form   a form that mirrors a triangle, and which one
 --     Reads     a way in which the block of ny by nx entries from (i, j) on can be read
-use Rattle.std.specs.Prelude.{Bool, true, false, ◌≡◌, List, ℕ, ◌+◌, ◌-◌, ◌*◌, ◌<◌, ◌≤◌, leb, Float}
-use Rattle.arrays.specs.Choice.{if◌then◌else◌}
+use Rattle.std.specs.Prelude.{Bool, true, false, ◌≡◌, List, ℕ, ◌+◌, ◌-◌, ◌*◌, ◌<◌, ◌≤◌, leb, Float, if◌then◌else◌}
 use Rattle.floats.specs.Array.{at}
 use Rattle.packing.specs.declared.Form.{Form}
 use Rattle.packing.specs.declared.Form.TheVariants.{Plain, Transposed, Lower, Upper}

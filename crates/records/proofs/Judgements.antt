@@ -14,7 +14,7 @@ use mir.Syntax.{w32}
 use mir.Val.{to_z, of_z}
 use mir.ValLaws.{to_z-of_z}
 use borrow.Author.Tests.{ltb-true, ne_eqb}
-use Rattle.arrays.specs.Choice.{if◌then◌else◌}
+use Rattle.std.specs.Prelude.{if◌then◌else◌}
 use Rattle.arrays.proofs.Tests.{and_right, if-true, if-false, by-test}
 use Rattle.definitions.specs.Call.{has_m, in_place, cuts_rows, extent}
 use Rattle.definitions.specs.Check.{nat, side_of, refusal, idle, call_of, checked}

@@ -1,7 +1,6 @@
 -- What the tests of a record come to: refused with a number, accepted with nothing to do, or accepted with work.
-use Rattle.std.specs.Prelude.{ℕ, ◌+◌, ◌*◌, ◌≤◌, ◌≡◌, Bool, ◌&&◌, ◌||◌, List, ltb, eqb, ℤ, pos, length, get_or, Float}
+use Rattle.std.specs.Prelude.{ℕ, ◌+◌, ◌*◌, ◌≤◌, ◌≡◌, Bool, ◌&&◌, ◌||◌, List, ltb, eqb, ℤ, pos, length, get_or, Float, if◌then◌else◌}
 use Rattle.std.proofs.Math.Option.{Option, none, some}
-use Rattle.arrays.specs.Choice.{if◌then◌else◌}
 use Rattle.definitions.specs.Call.{extent}
 use Rattle.definitions.specs.Check.{nat, negative, call_of, checked}
 use Rattle.definitions.specs.Machine.{Act, refuse}

@@ -11,7 +11,7 @@ use lib.Dec.{ltb}
 use lib.IntN.{ℤ, pos, negsuc}
 use lib.ListN.{set}
 use borrow.Author.Tests.{lt-ltb, le-ltb, eq-eqb, ne_eqb}
-use Rattle.arrays.specs.Choice.{if◌then◌else◌}
+use Rattle.std.specs.Prelude.{if◌then◌else◌}
 use Rattle.arrays.specs.Search.{none, earlier}
 use Rattle.arrays.proofs.Tests.{if-true, if-false}
 use Rattle.definitions.specs.Machine.{State, Act, work, closed, perform, counts, finished, step, iterate, made, reported}

@@ -13,7 +13,8 @@ use lib.Ieee.{Float}
 use borrow.Author.Tests.{ltb-false}
 use borrow.Rule.Slice.PartMut.{put_mid}
 use Rattle.arrays.proofs.PartLaws.{tail, put-tail}
-use Rattle.arrays.specs.Choice.{if◌then◌else◌, least}
+use Rattle.std.specs.Prelude.{if◌then◌else◌}
+use Rattle.arrays.specs.Choice.{least}
 use Rattle.arrays.proofs.Tests.{if-true, if-false, by-test}
 use Rattle.definitions.specs.Storage.{needed}
 use Rattle.definitions.specs.Call.{in_place, shape_b, shape_c, extent}

@@ -1,8 +1,8 @@
 // The sheet runner: at most so many steps of the plain machine, from a cursor on.
 #![tactic(auto)]
 
-ghost use Rattle.std.specs.Prelude.{◌≡◌, Bool, not, ◌++◌, ℕ, ◌+◌, ◌-◌, ◌*◌, ◌^◌, ◌≤◌, ◌<◌, pos, length, take, drop};
-ghost use Rattle.arrays.specs.Choice.{if◌then◌else◌, least};
+ghost use Rattle.std.specs.Prelude.{◌≡◌, Bool, not, ◌++◌, ℕ, ◌+◌, ◌-◌, ◌*◌, ◌^◌, ◌≤◌, ◌<◌, pos, length, take, drop, if◌then◌else◌};
+ghost use Rattle.arrays.specs.Choice.{least};
 ghost use Rattle.arrays.specs.Search as Search;
 ghost use Rattle.definitions.specs.Call as Calls;
 ghost use Rattle.definitions.specs.Element as Element;

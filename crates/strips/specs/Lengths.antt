@@ -1,6 +1,5 @@
 -- The arrays of a call that the argument check has accepted, and how many lines its routine takes at a time.
-use Rattle.std.specs.Prelude.{ℕ}
-use Rattle.arrays.specs.Choice.{if◌then◌else◌}
+use Rattle.std.specs.Prelude.{ℕ, if◌then◌else◌}
 use Rattle.definitions.specs.Call.{in_place}
 use Rattle.definitions.specs.declared.Call.{Call}
 use Rattle.definitions.specs.declared.Routine.{Routine}

@@ -10,7 +10,7 @@ use native.Mathlib.Omega.{arith}
 use lib.Ieee.{Float, nan}
 use lib.ListN.{length, take, drop}
 use borrow.Rule.Slice.PartMut.{put_mid}
-use Rattle.arrays.specs.Choice.{if◌then◌else◌}
+use Rattle.std.specs.Prelude.{if◌then◌else◌}
 use Rattle.arrays.specs.Update.{EntryMap, update, entries, only, box, region, trapezoid, corner}
 use Rattle.arrays.proofs.EntryLaws.{box-row-out, box-column-out}
 use Rattle.floats.specs.Array.{at}

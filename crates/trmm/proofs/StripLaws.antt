@@ -6,7 +6,7 @@ use mathlib.Core.Bool.{Bool, true, false, not}
 use mathlib.Core.List.{List}
 use native.Mathlib.Nat.{zero-add}
 use lib.Ieee.{Float, nan}
-use Rattle.arrays.specs.Choice.{if◌then◌else◌}
+use Rattle.std.specs.Prelude.{if◌then◌else◌}
 use Rattle.arrays.specs.Update.{update}
 use Rattle.arrays.specs.Fold.{fold, among}
 use Rattle.arrays.proofs.Tests.{if-true, if-false, if-both}

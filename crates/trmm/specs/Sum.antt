@@ -1,8 +1,7 @@
 -- TRMM by lines of B: element q of a line becomes the sum of the terms that it has, p ascending, from +0.0.
 --     sum_of      all m terms of element q; x p is the value of element p
 --     line_value  the value of element q of a line; x is the line as it was
-use Rattle.std.specs.Prelude.{Bool, ℕ, Float}
-use Rattle.arrays.specs.Choice.{if◌then◌else◌}
+use Rattle.std.specs.Prelude.{Bool, ℕ, Float, if◌then◌else◌}
 use Rattle.arrays.specs.Fold.{fold}
 use Rattle.floats.specs.Operations.{0f}
 use Rattle.definitions.specs.Number.{is_zero, factor}

@@ -2,8 +2,7 @@
 // in such an order that what one reads of the line is still as at entry.
 #![tactic(auto)]
 
-ghost use Rattle.std.specs.Prelude.{◌≡◌, true, false, List, ℕ, ◌+◌, ◌*◌, ◌≤◌, ◌<◌, length, Float};
-ghost use Rattle.arrays.specs.Choice.{if◌then◌else◌};
+ghost use Rattle.std.specs.Prelude.{◌≡◌, true, false, List, ℕ, ◌+◌, ◌*◌, ◌≤◌, ◌<◌, length, Float, if◌then◌else◌};
 ghost use Rattle.arrays.specs.Update.{update};
 ghost use Rattle.floats.specs.Array.{at};
 ghost use Rattle.floats.specs.Operations.{0f, 1f};

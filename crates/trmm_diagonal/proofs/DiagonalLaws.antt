@@ -10,7 +10,7 @@ use lib.ListN.{length, set, length-set}
 use lib.Seq.{get_or-set_same, get_or-set_other}
 use lib.Ieee.{Float, nan}
 use borrow.Author.Tests.{leb-true, eq-eqb, ne_eqb}
-use Rattle.arrays.specs.Choice.{if◌then◌else◌}
+use Rattle.std.specs.Prelude.{if◌then◌else◌}
 use Rattle.arrays.specs.Update.{update, region}
 use Rattle.arrays.specs.Fold.{fold, among}
 use Rattle.arrays.proofs.Tests.{if-both}

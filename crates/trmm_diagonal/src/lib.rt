@@ -2,7 +2,7 @@
 // holds an element of all lines. Of op(A) no more is read than its triangle, and of its diagonal nothing where it is unit.
 #![tactic(auto)]
 
-ghost use Rattle.std.specs.Prelude.{◌≡◌, true, false, ℕ, ◌+◌, ◌*◌, ◌≤◌, ◌<◌, length};
+ghost use Rattle.std.specs.Prelude.{◌≡◌, true, false, ℕ, ◌+◌, ◌*◌, ◌≤◌, ◌<◌, length, if◌then◌else◌};
 ghost use Rattle.arrays.specs.Update.{update};
 ghost use Rattle.arrays.specs.Fold.{fold};
 ghost use Rattle.floats.specs.Array.{at};
@@ -11,7 +11,6 @@ ghost use Rattle.definitions.specs.Storage.{with_diagonal};
 ghost use Rattle.definitions.specs.declared.Transpose.{Transpose as TransposeOf};
 ghost use Rattle.packing.specs.Factor.{index_of, entry_of};
 ghost use Rattle.forms.specs.Forms.{op_form};
-ghost use Rattle.arrays.specs.Choice.{if◌then◌else◌};
 ghost use Rattle.lines.specs.Lines.{cell, grid, within, coefficient, Room};
 ghost use Rattle.trmm_diagonal.specs.Terms.{has, held_terms, term_from, Pivots};
 

@@ -8,7 +8,7 @@ use native.Mathlib.Omega.{arith}
 use lib.ListN.{get_or}
 use lib.Ieee.{Float, nan}
 use borrow.Author.Tests.{ne_eqb}
-use Rattle.arrays.specs.Choice.{if◌then◌else◌}
+use Rattle.std.specs.Prelude.{if◌then◌else◌}
 use Rattle.arrays.specs.Fold.{fold, solved}
 use Rattle.arrays.proofs.Tests.{if-both}
 use Rattle.arrays.proofs.FoldLaws.{fold_same, solved-same}

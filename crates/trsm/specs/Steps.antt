@@ -2,9 +2,8 @@
 --     goes_down    solving goes from the last index down, if A's triangle is the one given
 --     line_value   the value of element i of a line; b is the line as it was
 --     Step        what a part of the solution does: whatever the sums started with, the unknowns come from one state to another
-use Rattle.std.specs.Prelude.{◌≡◌, Bool, not, List, ℕ, Float}
+use Rattle.std.specs.Prelude.{◌≡◌, Bool, not, List, ℕ, Float, if◌then◌else◌}
 use Rattle.std.specs.Float.{nan}
-use Rattle.arrays.specs.Choice.{if◌then◌else◌}
 use Rattle.arrays.specs.Update.{update}
 use Rattle.floats.specs.Operations.{◌⊗◌, 0f}
 use Rattle.definitions.specs.Number.{is_zero, factor}

@@ -8,7 +8,7 @@ use native.Mathlib.Nat.{add-zero}
 use native.Mathlib.Omega.{arith}
 use lib.Dec.{leb, ltb, leb-zero}
 use borrow.Author.Tests.{ltb-true, ltb-false, leb-true, lt-ltb, le-ltb, le-leb, lt-leb}
-use Rattle.arrays.specs.Choice.{if◌then◌else◌}
+use Rattle.std.specs.Prelude.{if◌then◌else◌}
 use Rattle.arrays.specs.Search.{lowest, Lowest, lower}
 use Rattle.arrays.proofs.Tests.{and_left, and_right, if-true, if-false, by-test}
 use Rattle.arrays.proofs.UpdateLaws.{lt-or-ge}

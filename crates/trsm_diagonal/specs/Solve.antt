@@ -13,9 +13,8 @@
 --     block_value  the value of unknown q of a diagonal block T of order n; s is what the sums of a line start with, by element
 --     packed_term, packed_value   a term and a value of such a block by factors: row i of v has those of the entries for element i, in the order of solving, and D has the diagonal
 --     zero_among   the divisions by zero of the unknowns from the p-th on and below the e-th, by index
-use Rattle.std.specs.Prelude.{Bool, true, false, ◌&&◌, List, ℕ, ◌+◌, ◌-◌, ◌*◌, get_or, leb, ltb, Float}
+use Rattle.std.specs.Prelude.{Bool, true, false, ◌&&◌, List, ℕ, ◌+◌, ◌-◌, ◌*◌, get_or, leb, ltb, Float, if◌then◌else◌}
 use Rattle.std.specs.Float.{nan}
-use Rattle.arrays.specs.Choice.{if◌then◌else◌}
 use Rattle.arrays.specs.Fold.{fold, solved}
 use Rattle.floats.specs.Array.{at}
 use Rattle.floats.specs.Operations.{◌⊕◌, ◌⊗◌, −1f}
