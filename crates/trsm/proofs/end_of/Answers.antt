@@ -1,0 +1,12 @@
+-- `end_of` meets its contract, by cases on the diagonal.
+use Rattle.definitions.specs.Element.{divided}
+use Rattle.elements.specs.Sums.{finished}
+use Rattle.trsm.proofs.end_of.Goals as goal
+
+pub returns-in-Unit : goal.returns-in-Unit
+unfolding divided finished
+returns-in-Unit c = λ left alpha e y. rw c.in-Unit.is
+
+pub returns-in-Nonunit : goal.returns-in-Nonunit
+unfolding divided finished
+returns-in-Nonunit c = λ left alpha e y. rw c.in-Nonunit.is
