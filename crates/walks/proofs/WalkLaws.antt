@@ -9,7 +9,6 @@ use native.Mathlib.Omega.{arith}
 use lib.ListN.{length, take, drop}
 use lib.Ieee.{Float, nan}
 use borrow.Rule.Slice.PartMut.{put_mid}
-use Rattle.std.specs.Prelude.{if◌then◌else◌}
 use Rattle.arrays.specs.Update.{update, below, entries, only, corner}
 use Rattle.arrays.proofs.EntryLaws.{entries-keep, only-keep, only_then}
 use Rattle.arrays.proofs.PartLaws.{tail_at}
@@ -47,7 +46,8 @@ passes-more t = omega (arith, add-mul t 1 (t + 1 + 1), mul-add t (t + 1) 1)
 
 -- `count` passes are those of the columns below j.
 abbrev pub Counted : Bool → ℕ → ℕ → ℕ → Type 0
-Counted lower order j count = if lower then (count + passes (order - j) ≡ passes order) else (count ≡ passes j)
+Counted true order j count = count + passes (order - j) ≡ passes order
+Counted false order j count = count ≡ passes j
 
 pub counted_none : (lower : Bool) (order : ℕ) → Counted lower order 0 0
 unfolding passes
