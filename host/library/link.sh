@@ -82,7 +82,7 @@ if [ -f "$in/words" ] && once -march=x86-64 && once '.*\.bc' && once '.*\.o'; th
     compile x86-64 "$in/module.bc" compiled.o
     cmp archive.o compiled.o || fail "the module that was kept is not the archive's"
 else
-    echo "library: the toolchain hands over its module in a way that link.sh does not know; there is one build, for x86-64, that of rt staticlib"
+    echo "library: the toolchain hands over its module in a way that link.sh does not know; there is one build, for x86-64, that of rt lib"
     add x86-64 archive.o
 fi
 
