@@ -265,23 +265,23 @@ fn row_m() -> bool {
 
 // ---- printing
 
-fn word(ok: bool) -> &'static str {
-    if ok { "ok" } else { "no" }
+fn print(rt: &impl Print, letter: char, ok: bool) -> io::Result<()> {
+    let word = if ok { "ok" } else { "no" };
+    println!(rt; "{letter} {word}")
 }
 
 fn main(rt: HostRuntime) -> io::Result<()> {
-    println!(rt; "a {}", word(row_a()))?;
-    println!(rt; "b {}", word(row_b()))?;
-    println!(rt; "c {}", word(row_c()))?;
-    println!(rt; "d {}", word(row_d()))?;
-    println!(rt; "e {}", word(row_e()))?;
-    println!(rt; "f {}", word(row_f()))?;
-    println!(rt; "g {}", word(row_g()))?;
-    println!(rt; "h {}", word(row_h()))?;
-    println!(rt; "i {}", word(row_i()))?;
-    println!(rt; "j {}", word(row_j()))?;
-    println!(rt; "k {}", word(row_k()))?;
-    println!(rt; "l {}", word(row_l()))?;
-    println!(rt; "m {}", word(row_m()))?;
-    Ok(())
+    print(&rt, 'a', row_a())?;
+    print(&rt, 'b', row_b())?;
+    print(&rt, 'c', row_c())?;
+    print(&rt, 'd', row_d())?;
+    print(&rt, 'e', row_e())?;
+    print(&rt, 'f', row_f())?;
+    print(&rt, 'g', row_g())?;
+    print(&rt, 'h', row_h())?;
+    print(&rt, 'i', row_i())?;
+    print(&rt, 'j', row_j())?;
+    print(&rt, 'k', row_k())?;
+    print(&rt, 'l', row_l())?;
+    print(&rt, 'm', row_m())
 }
