@@ -1,5 +1,6 @@
 -- `narrow` copies from the front, if there is something to copy.
-use mathlib.Core.Path.{refl, ◌∙◌}
+use mathlib.Core.Bool.{true}
+use mathlib.Core.Path.{◌≡◌, refl, ◌∙◌}
 use Prim.Native.Nat.{◌<◌}
 use native.Mathlib.Omega.{arith}
 use lib.IntN.{pos}
@@ -13,8 +14,7 @@ use Rattle.integer_solve.proofs.narrow.Goals as goal
 use Rattle.integer_solve.proofs.narrow.Goals.{After-x-1}
 
 word : (c : After-x-1) → mag (get_or c.args.s.now c.loop-i.i (pos 0)) < 32768
-word c =
-    word_fits (c.requires.1 (c.if-not-found.false) c.loop-i.i (omega arith))
+word c = word_fits (c.requires.1 (cc) c.loop-i.i (omega arith))
 
 pub loop-i-init : goal.loop-i-init
 loop-i-init c = (omega arith, refl, below_none _ _)
@@ -31,4 +31,5 @@ loop-i-preserved c =
 pub returns : goal.returns
 returns c =
     let l = c.loop-i in
-    rw (c.if-not-found.false) (l.invariant.2 ∙ update_same _ _ _ (λ p h z. below_in l.i _ p z (omega arith)))
+    let found : c.args.found ≡ true = cc in
+    rw found (l.invariant.2 ∙ update_same _ _ _ (λ p h z. below_in l.i _ p z (omega arith)))
