@@ -1,6 +1,6 @@
 #!/bin/bash
 # Tests the host offline, after building the library if it is missing or old: how the library is built and how it chooses; the Rust crates, and the portal
-# frame in three languages, on every build that the machine supports; and that all builds give the same results. It writes to target/ only.
+# frame in three languages, on every build that the machine supports; and that all builds give the same results. It writes to target/ and to the folders out/ of the crates only.
 # Its last line is 'host: N tests passed', and anything else fails.
 set -euo pipefail
 cd "$(dirname "$0")/.."
