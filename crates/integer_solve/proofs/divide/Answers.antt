@@ -12,7 +12,7 @@ use mir.ValLaws.{to_z-of_z, sfits_le}
 use Rattle.integer_solve.proofs.Integers.{mag-abs, quotient-abs, quotient-whole, whole-remainder, product-cancel}
 use Rattle.integer_solve.proofs.Words.{word_fits, fits_word, same_word, same-64, zero_bits, range}
 use Rattle.integer_solve.proofs.divide.Goals as goal
-use Rattle.integer_solve.proofs.divide.Goals.{Else-q, Else-s-divisor-ne0, Start}
+use Rattle.integer_solve.proofs.divide.Goals.{Else-q, Start}
 
 -- quotient and remainder are no larger than what is divided
 quotient_fits : (c : Start) → SFits w64 (quot_z c.args.s c.args.d)
@@ -24,12 +24,12 @@ remainder-fits : (c : Start) → SFits w64 (rem_z c.args.s c.args.d)
 remainder-fits c =
     sfits_le (mag_rem c.args.s c.args.d) c.ranges.s
 
--- the test of the remainder
-no-remainder : (c : Else-s-divisor-ne0) → rem_z c.args.s c.args.d ≡ pos 0
+-- the test of the remainder, behind both tests
+no-remainder : (c : Else-q) → rem_z c.args.s c.args.d ≡ pos 0
 no-remainder c =
     let remainder-fits : SFits w64 (rem_z c.args.s c.args.d) = sfits_le (mag_rem c.args.s c.args.d) c.ranges.s in
-    zero_bits w64 (rem_z c.args.s c.args.d) (remainder-fits)
-    (rw (same-64 c.args.d c.ranges.d.sfits, to_z-of_z w64 c.args.s c.ranges.s) at c.if-s-divisor-ne0.false)
+    let tested : of_z w64 (rem_z (to_z w64 (of_z w64 c.args.s)) (to_z w64 (of_z w64 (to_z w16 (of_z w16 c.args.d))))) ≡ 0 = cc in
+    zero_bits w64 (rem_z c.args.s c.args.d) (remainder-fits) (rw (same-64 c.args.d c.ranges.d.sfits, to_z-of_z w64 c.args.s c.ranges.s) at tested)
 
 -- the quotient as it is tested, and the test
 quotient_is : (c : Start) → to_z w64 (of_z w64 (quot_z (to_z w64 (of_z w64 c.args.s)) (to_z w64 (of_z w64 (to_z w16 (of_z w16 c.args.d)))))) ≡ quot_z c.args.s c.args.d
@@ -63,4 +63,4 @@ returns-then-q c x word h =
 
 pub returns : goal.returns
 returns c =
-    rw (quotient_is (goal.at.returns c).Start, same_word _ (inside (goal.at.returns c).Else-q)) (fits_word (inside (goal.at.returns c).Else-q), quotient-whole c.args.s c.args.d (no-remainder (goal.at.returns c).Else-s-divisor-ne0))
+    rw (quotient_is (goal.at.returns c).Start, same_word _ (inside (goal.at.returns c).Else-q)) (fits_word (inside (goal.at.returns c).Else-q), quotient-whole c.args.s c.args.d (no-remainder (goal.at.returns c).Else-q))
