@@ -14,16 +14,6 @@ use Rattle.integer_solve.proofs.Words.{word_fits, fits_word, same_word, same-64,
 use Rattle.integer_solve.proofs.divide.Goals as goal
 use Rattle.integer_solve.proofs.divide.Goals.{Else-q, Start}
 
--- quotient and remainder are no larger than what is divided
-quotient_fits : (c : Start) → SFits w64 (quot_z c.args.s c.args.d)
-quotient_fits c =
-    let q = quot_z c.args.s c.args.d in
-    record { sfits = omega (arith, mag-abs q, quotient-abs c.args.s c.args.d, c.requires.0) }
-
-remainder-fits : (c : Start) → SFits w64 (rem_z c.args.s c.args.d)
-remainder-fits c =
-    sfits_le (mag_rem c.args.s c.args.d) c.ranges.s
-
 -- the test of the remainder, behind both tests
 no-remainder : (c : Else-q) → rem_z c.args.s c.args.d ≡ pos 0
 no-remainder c =

@@ -18,10 +18,6 @@ first : (c : After-bad_uplo) → (bad_order c.args.n || bad_uplo c.args.uplo) �
 first c =
     sym (λ i. same bad_order c.args.n c.ranges.n.sfits c.bad_order.ensures i || same bad_uplo c.args.uplo c.ranges.uplo.sfits c.bad_uplo.ensures i)
 
-order : (c : After-size-order) → c.size-order.result ≡ nat c.args.n
-order c =
-    same nat c.args.n c.ranges.n.sfits c.size-order.ensures
-
 small : (c : After-size-order) → c.size-order.result ≤ 64
 small c =
     let first : (bad_order c.args.n || bad_uplo c.args.uplo) ≡ (c.bad_order.result || c.bad_uplo.result) = sym (λ i. same bad_order c.args.n c.ranges.n.sfits c.bad_order.ensures i || same bad_uplo c.args.uplo c.ranges.uplo.sfits c.bad_uplo.ensures i) in

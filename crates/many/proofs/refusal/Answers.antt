@@ -14,11 +14,6 @@ use Rattle.many.proofs.Numbers.{stops, goes_on, fails, passes, from44, from_arra
 use Rattle.many.proofs.refusal.Goals as goal
 use Rattle.many.proofs.refusal.Goals.{After-bad_array-array, After-bad_count, After-bad_place-place, After-bad_stride, After-bad_width-2, After-copied, After-size-count, Start}
 
--- the number is that of the first test of a list that fails
-abbrev Of : (c : Start) → List ℕ → Type 0
-Of c es =
-    refusal c.args.w c.args.r c.args.g c.args.t c.args.pack ≡ first_number es
-
 -- 30, and then the places
 widths : (c : After-bad_width-2) → (c.bad_width.result || c.bad_width-2.result) ≡ (bad_width c.args.w || bad_width c.args.r)
 widths c =
