@@ -2,6 +2,7 @@
 --     index_of   the place of entry (i, j) in the array: Plain and Transposed are as they say; of Lower and Upper, symmetric factors, only that
 --               triangle is read, diagonal included, and the other entries are mirrored
 --     entry_of   entry (i, j) of a factor
+--     matrix_of  the matrix that a factor is
 --     along     the q-th index from `from` on, up or down
 --     turn      the index of the term that comes q-th of k: from the first up, or from the last down
 --     Indices   the n indices from `from` on, up or down, are numbers of the machine
@@ -11,6 +12,7 @@
 use Rattle.std.specs.Prelude.{Bool, true, false, ◌≡◌, List, ℕ, ◌+◌, ◌-◌, ◌*◌, ◌<◌, ◌≤◌, leb, Float, if◌then◌else◌}
 use Rattle.floats.specs.Array.{at}
 use Rattle.packing.specs.declared.Form.{Form}
+use Rattle.packing.specs.declared.factor.Factor.{Factor}
 use Rattle.packing.specs.declared.Form.TheVariants.{Plain, Transposed, Lower, Upper}
 use Rattle.packing.specs.declared.Way.{Way}
 use Rattle.packing.specs.declared.Way.TheVariants.{Columns, Rows, Mirrored}
@@ -26,6 +28,9 @@ Matrix = ℕ → ℕ → Float
 
 unfoldable pub entry_of : Form → List Float → ℕ → Matrix
 entry_of form a ld i j = at a (index_of form ld i j)
+
+abbrev pub matrix_of : Factor → Matrix
+matrix_of f = entry_of f.form f.cells.now f.ld
 
 unfoldable pub along : Bool → ℕ → ℕ → ℕ
 along false from q = from + q

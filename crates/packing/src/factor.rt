@@ -1,8 +1,23 @@
 // The places of a factor's entries, and the order in which its terms are taken.
-ghost use Rattle.std.specs.Prelude.{◌≡◌, ◌+◌, ◌<◌};
+ghost use Rattle.std.specs.Prelude.{◌≡◌, false, ◌+◌, ◌<◌};
 ghost use Rattle.packing.specs.Factor.{Indices, index_of, along, turn};
 
 use super::Form;
+
+// A factor of a product, as an array holds it: in a form, with a leading dimension.
+#[derive(Clone, Copy)]
+pub struct Factor<'a> {
+    pub form: Form,
+    pub cells: &'a [f64],
+    pub ld: usize,
+}
+
+// Indices from one on, up or down.
+#[derive(Clone, Copy)]
+pub struct Run {
+    pub from: usize,
+    pub down: bool,
+}
 
 // The place of entry (i, j) in an array that holds a factor in a form.
 pub fn place(form: Form, ld: usize, i: usize, j: usize) -> usize
@@ -17,12 +32,25 @@ pub fn place(form: Form, ld: usize, i: usize, j: usize) -> usize
     }
 }
 
-// The q-th index from `from` on, up or down.
-pub fn step(down: bool, from: usize, q: usize) -> usize
-    requires { Indices down from (q + 1) }
-    ensures { result ≡ along down from q }
-{
-    if down { from - q } else { from + q }
+impl Run {
+    // The indices from this one up.
+    pub fn up(from: usize) -> Run
+        ensures { (result.from ≡ from) × (result.down ≡ false) }
+    {
+        Run { from, down: false }
+    }
+
+    // The q-th of them.
+    pub fn index(self, q: usize) -> usize
+        requires { Indices self.down self.from (q + 1) }
+        ensures { result ≡ along self.down self.from q }
+    {
+        if self.down {
+            self.from - q
+        } else {
+            self.from + q
+        }
+    }
 }
 
 // The index of the term that comes q-th of k.

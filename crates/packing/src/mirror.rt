@@ -100,10 +100,8 @@ pub fn block(
     requires by_index { (y x : ℕ) → y < ny → x < nx → index_of (mirrored_form lower) ld (i + y) (j + x) < length a.now }
     ensures { dest.new ≡ update (region stride ny nx (λ y x _. entry_of (mirrored_form lower) a.now ld (i + y) (j + x))) dest.old }
 {
-    let mut x = 0;
-    while x < nx {
+    for x in 0..nx {
         let to = x * stride;
         line(&mut dest[to..], ny, lower, a, ld, i, j + x);
-        x += 1;
     }
 }

@@ -4,15 +4,15 @@ ghost use Rattle.arrays.specs.Update.{update, below, region};
 ghost use Rattle.floats.specs.Array.{at};
 ghost use Rattle.packing.specs.Factor.{Within, along};
 
+use super::factor::Run;
+
 // The elements below n, one after the other.
 pub fn copy(dest: &mut [f64], n: usize, a: &[f64])
     requires { (n ≤ length dest.old) × (n ≤ length a.now) }
     ensures { dest.new ≡ update (below n (λ y x. at a.now y)) dest.old }
 {
-    let mut y = 0;
-    while y < n {
+    for y in 0..n {
         dest[y] = a[y];
-        y += 1;
     }
 }
 
@@ -21,24 +21,22 @@ pub fn reversed(dest: &mut [f64], n: usize, a: &[f64])
     requires { (n ≤ length dest.old) × (n ≤ length a.now) }
     ensures { dest.new ≡ update (below n (λ y x. at a.now (n - 1 - y))) dest.old }
 {
-    let mut y = 0;
-    while y < n {
+    for y in 0..n {
         dest[y] = a[n - 1 - y];
-        y += 1;
     }
 }
 
-// The n elements from `from` on, up or down.
-pub fn copy_from(dest: &mut [f64], n: usize, a: &[f64], from: usize, down: bool)
-    requires { (n ≤ length dest.old) × Within down from n (length a.now) }
-    ensures { dest.new ≡ update (below n (λ y x. at a.now (along down from y))) dest.old }
+// The n elements of a run.
+pub fn copy_from(dest: &mut [f64], n: usize, a: &[f64], run: Run)
+    requires { (n ≤ length dest.old) × Within run.down run.from n (length a.now) }
+    ensures { dest.new ≡ update (below n (λ y x. at a.now (along run.down run.from y))) dest.old }
 {
-    if down {
-        let lowest = from + 1 - n;
+    if run.down {
+        let lowest = run.from + 1 - n;
         reversed(dest, n, &a[lowest..]);
         return;
     }
-    copy(dest, n, &a[from..]);
+    copy(dest, n, &a[run.from..]);
 }
 
 // The elements below n, each to a line of its own.
@@ -46,10 +44,8 @@ pub fn spread(dest: &mut [f64], n: usize, a: &[f64])
     requires { (n * 64 < length dest.old + 64) × (n ≤ length a.now) }
     ensures { dest.new ≡ update (region 64 1 n (λ y x _. at a.now x)) dest.old }
 {
-    let mut x = 0;
-    while x < n {
+    for x in 0..n {
         dest[x * 64] = a[x];
-        x += 1;
     }
 }
 
@@ -58,24 +54,22 @@ fn spread_reversed(dest: &mut [f64], n: usize, a: &[f64])
     requires { (n * 64 < length dest.old + 64) × (n ≤ length a.now) }
     ensures { dest.new ≡ update (region 64 1 n (λ y x _. at a.now (n - 1 - x))) dest.old }
 {
-    let mut x = 0;
-    while x < n {
+    for x in 0..n {
         dest[x * 64] = a[n - 1 - x];
-        x += 1;
     }
 }
 
-// The n elements from `from` on, up or down, each to a line of its own.
-pub fn spread_from(dest: &mut [f64], n: usize, a: &[f64], from: usize, down: bool)
-    requires { (n * 64 < length dest.old + 64) × Within down from n (length a.now) }
-    ensures { dest.new ≡ update (region 64 1 n (λ y x _. at a.now (along down from x))) dest.old }
+// The n elements of a run, each to a line of its own.
+pub fn spread_from(dest: &mut [f64], n: usize, a: &[f64], run: Run)
+    requires { (n * 64 < length dest.old + 64) × Within run.down run.from n (length a.now) }
+    ensures { dest.new ≡ update (region 64 1 n (λ y x _. at a.now (along run.down run.from x))) dest.old }
 {
-    if down {
-        let lowest = from + 1 - n;
+    if run.down {
+        let lowest = run.from + 1 - n;
         spread_reversed(dest, n, &a[lowest..]);
         return;
     }
-    spread(dest, n, &a[from..]);
+    spread(dest, n, &a[run.from..]);
 }
 
 // The first elements of n columns.
@@ -83,9 +77,7 @@ pub fn gather(dest: &mut [f64], n: usize, a: &[f64], ld: usize)
     requires { (n ≤ length dest.old) × ((y : ℕ) → y < n → y * ld < length a.now) }
     ensures { dest.new ≡ update (below n (λ y x. at a.now (y * ld))) dest.old }
 {
-    let mut y = 0;
-    while y < n {
+    for y in 0..n {
         dest[y] = a[y * ld];
-        y += 1;
     }
 }

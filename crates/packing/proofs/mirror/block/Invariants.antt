@@ -1,13 +1,9 @@
 -- `mirror::block` meets its contract: the lines below x are done.
 use Rattle.packing.specs.Factor.{mirrored_form, entry_of}
 use Rattle.arrays.specs.Update.{update, region}
-use lib.ListN.{length}
 use mathlib.Core.Path.{◌≡◌}
-use Prim.Native.Nat.{◌≤◌, ◌-◌, ◌+◌}
+use Prim.Native.Nat.{◌+◌}
 use Rattle.packing.proofs.mirror.block.Given as goal
 
 abbrev pub invariant-loop-x : goal.invariant-loop-x
-invariant-loop-x l = (l.x ≤ l.nx) × (length l.dest ≡ length l.initial.dest) × (l.dest ≡ update (region l.stride l.ny l.x (λ y x' _. entry_of (mirrored_form l.lower) l.a l.ld (l.i + y) (l.j + x'))) l.initial.dest)
-
-abbrev pub decreases-loop-x : goal.decreases-loop-x
-decreases-loop-x l = l.nx - l.x
+invariant-loop-x l = l.dest ≡ update (region l.stride l.ny l.x (λ y x' _. entry_of (mirrored_form l.lower) l.a l.ld (l.i + y) (l.j + x'))) l.initial.dest

@@ -9,13 +9,13 @@ pub returns-in-Transposed : goal.returns-in-Transposed
 returns-in-Transposed c = reads-transposed _ _ _ _ c.in-Transposed.is
 
 pub returns-then-j-nx : goal.returns-then-j-nx
-returns-then-j-nx c = lower-columns _ _ _ _ c.if-down.false c.if-across.false c.in-Lower.is c.if-j-nx.true
+returns-then-j-nx c = lower-columns _ _ _ _ c.if-i.false c.if-j.false c.in-Lower.is c.if-j-nx.true
 
 pub returns-then-i-ny : goal.returns-then-i-ny
-returns-then-i-ny c = lower-rows _ _ _ _ c.if-down.false c.if-across.false c.in-Lower.is c.if-i-ny.true
+returns-then-i-ny c = lower-rows _ _ _ _ c.if-i.false c.if-j.false c.in-Lower.is c.if-i-ny.true
 
 pub returns-then-i-ny-2 : goal.returns-then-i-ny-2
-returns-then-i-ny-2 c = upper-columns _ _ _ _ c.if-down-2.false c.if-across-2.false c.in-Upper.is c.if-i-ny-2.true
+returns-then-i-ny-2 c = upper-columns _ _ _ _ c.if-i-2.false c.if-j-2.false c.in-Upper.is c.if-i-ny-2.true
 
 pub returns-then-j-nx-2 : goal.returns-then-j-nx-2
-returns-then-j-nx-2 c = upper-rows _ _ _ _ c.if-down-2.false c.if-across-2.false c.in-Upper.is c.if-j-nx-2.true
+returns-then-j-nx-2 c = upper-rows _ _ _ _ c.if-i-2.false c.if-j-2.false c.in-Upper.is c.if-j-nx-2.true

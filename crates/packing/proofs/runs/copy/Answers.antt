@@ -1,13 +1,11 @@
 -- `runs::copy` meets its contract: the elements below y are done.
-use mathlib.Core.Path.{refl}
 use native.Mathlib.Omega.{arith}
 use lib.Ieee.{nan}
-use lib.ListN.{length-set}
 use Rattle.arrays.proofs.UpdateLaws.{below_none, below_more}
 use Rattle.packing.proofs.runs.copy.Goals as goal
 
 pub loop-y-init : goal.loop-y-init
-loop-y-init c = (omega arith, refl, below_none _ _)
+loop-y-init c = below_none _ _
 
 pub loop-y-preserved : goal.loop-y-preserved
-loop-y-preserved c = (omega arith, simp length-set (omega arith), below_more nan _ _ _ _ c.loop-y.invariant.2 (omega arith))
+loop-y-preserved c = below_more nan _ _ _ _ c.loop-y.invariant (omega arith)

@@ -1,13 +1,8 @@
 -- `runs::copy` meets its contract: the elements below y are done.
-use Prim.Native.Nat.{◌≤◌, ◌-◌}
 use mathlib.Core.Path.{◌≡◌}
-use lib.ListN.{length}
 use Rattle.arrays.specs.Update.{update, below}
 use Rattle.floats.specs.Array.{at}
 use Rattle.packing.proofs.runs.copy.Given as goal
 
 abbrev pub invariant-loop-y : goal.invariant-loop-y
-invariant-loop-y l = (l.y ≤ l.n) × (length l.dest ≡ length l.initial.dest) × (l.dest ≡ update (below l.y (λ p x. at l.a p)) l.initial.dest)
-
-abbrev pub decreases-loop-y : goal.decreases-loop-y
-decreases-loop-y l = l.n - l.y
+invariant-loop-y l = l.dest ≡ update (below l.y (λ p x. at l.a p)) l.initial.dest

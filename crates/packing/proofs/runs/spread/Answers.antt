@@ -2,12 +2,11 @@
 use mathlib.Core.Path.{refl}
 use native.Mathlib.Omega.{arith}
 use lib.Ieee.{nan}
-use lib.ListN.{length-set}
 use Rattle.arrays.proofs.RegionLaws.{region-no-columns, row_more}
 use Rattle.packing.proofs.runs.spread.Goals as goal
 
 pub loop-x-init : goal.loop-x-init
-loop-x-init c = (omega arith, refl, region-no-columns _ _ _ _)
+loop-x-init c = region-no-columns _ _ _ _
 
 pub loop-x-preserved : goal.loop-x-preserved
-loop-x-preserved c = (omega arith, simp length-set (omega arith), row_more nan 64 (omega arith) _ _ _ _ _ (omega arith) c.loop-x.invariant.2 (λ x. refl))
+loop-x-preserved c = row_more nan 64 (omega arith) _ _ _ _ _ (omega arith) c.loop-x.invariant (λ x. refl)

@@ -1,13 +1,8 @@
 -- `runs::spread` meets its contract: the lines below x are done.
-use Prim.Native.Nat.{◌≤◌, ◌-◌}
 use mathlib.Core.Path.{◌≡◌}
-use lib.ListN.{length}
 use Rattle.arrays.specs.Update.{update, region}
 use Rattle.floats.specs.Array.{at}
 use Rattle.packing.proofs.runs.spread.Given as goal
 
 abbrev pub invariant-loop-x : goal.invariant-loop-x
-invariant-loop-x l = (l.x ≤ l.n) × (length l.dest ≡ length l.initial.dest) × (l.dest ≡ update (region 64 1 l.x (λ y x' _. at l.a x')) l.initial.dest)
-
-abbrev pub decreases-loop-x : goal.decreases-loop-x
-decreases-loop-x l = l.n - l.x
+invariant-loop-x l = l.dest ≡ update (region 64 1 l.x (λ y x' _. at l.a x')) l.initial.dest
