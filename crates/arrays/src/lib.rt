@@ -5,6 +5,14 @@
 ghost use Rattle.std.specs.Prelude.{◌≡◌, ◌≤◌, ◌<◌, if◌then◌else◌};
 ghost use Rattle.arrays.specs.Choice.{least};
 
+// Some rows and columns of a matrix, in an array with this leading dimension.
+#[derive(Clone, Copy)]
+pub struct Area {
+    pub ld: usize,
+    pub rows: usize,
+    pub cols: usize,
+}
+
 // The first if the test holds, else the second.
 pub fn pick(test: bool, x: usize, y: usize) -> usize
     ensures { result ≡ (if test then x else y) }

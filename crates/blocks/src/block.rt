@@ -4,17 +4,16 @@ ghost use Rattle.arrays.specs.Update.{update, below, region};
 ghost use Rattle.blocks.specs.Terms.{packed};
 
 use super::leaves;
+use arrays::Area;
 
 // One column, term by term.
 fn column_rest(c: &mut [f64], rows: usize, terms: usize, u: &[f64], t: &[f64])
     requires { (rows ≤ length c.old) × (rows ≤ 64) × (terms * 64 + rows ≤ length u.now + 64) × (terms ≤ length t.now) }
     ensures { c.new ≡ update (below rows (λ i e. packed terms u.now t.now i 0 e)) c.old }
 {
-    let mut q = 0;
-    while q < terms {
+    for q in 0..terms {
         let x = q * 64;
         leaves::axpy(c, rows, &u[x..], &t[q..]);
-        q += 1;
     }
 }
 
@@ -23,17 +22,15 @@ fn column_fours(c: &mut [f64], rows: usize, terms: usize, u: &[f64], t: &[f64])
     requires { (rows ≤ length c.old) × (rows ≤ 64) × (terms * 64 + rows ≤ length u.now + 64) × (terms ≤ length t.now) }
     ensures { c.new ≡ update (below rows (λ i e. packed terms u.now t.now i 0 e)) c.old }
 {
-    let mut q = 0;
-    while q + 4 <= terms {
-        let x = q * 64;
-        leaves::axpy4(c, rows, &u[x..], &t[q..]);
-        q += 4;
+    for p in 0..terms / 4 {
+        let q = p * 4;
+        leaves::axpy4(c, rows, &u[q * 64..], &t[q..]);
     }
+    let q = terms / 4 * 4;
     if q == terms {
         return;
     }
-    let y = q * 64;
-    column_rest(c, rows, terms - q, &u[y..], &t[q..]);
+    column_rest(c, rows, terms - q, &u[q * 64..], &t[q..]);
 }
 
 // One column of a product of packed blocks.
@@ -41,17 +38,15 @@ pub fn column(c: &mut [f64], rows: usize, terms: usize, u: &[f64], t: &[f64])
     requires { (rows ≤ length c.old) × (rows ≤ 64) × (terms * 64 + rows ≤ length u.now + 64) × (terms ≤ length t.now) }
     ensures { c.new ≡ update (below rows (λ i e. packed terms u.now t.now i 0 e)) c.old }
 {
-    let mut q = 0;
-    while q + 8 <= terms {
-        let x = q * 64;
-        leaves::axpy8(c, rows, &u[x..], &t[q..]);
-        q += 8;
+    for p in 0..terms / 8 {
+        let q = p * 8;
+        leaves::axpy8(c, rows, &u[q * 64..], &t[q..]);
     }
+    let q = terms / 8 * 8;
     if q == terms {
         return;
     }
-    let y = q * 64;
-    column_fours(c, rows, terms - q, &u[y..], &t[q..]);
+    column_fours(c, rows, terms - q, &u[q * 64..], &t[q..]);
 }
 
 // Two columns, term by term.
@@ -60,11 +55,9 @@ fn two_rest(c: &mut [f64], ld: usize, rows: usize, terms: usize, u: &[f64], t: &
     requires rows_in_bounds { (terms * 64 + rows ≤ length u.now + 64) × (64 + terms ≤ length t.now) }
     ensures { c.new ≡ update (region ld rows 2 (packed terms u.now t.now)) c.old }
 {
-    let mut q = 0;
-    while q < terms {
+    for q in 0..terms {
         let x = q * 64;
         leaves::pair(c, ld, rows, &u[x..], &t[q..]);
-        q += 1;
     }
 }
 
@@ -74,43 +67,44 @@ fn two(c: &mut [f64], ld: usize, rows: usize, terms: usize, u: &[f64], t: &[f64]
     requires rows_in_bounds { (terms * 64 + rows ≤ length u.now + 64) × (64 + terms ≤ length t.now) }
     ensures { c.new ≡ update (region ld rows 2 (packed terms u.now t.now)) c.old }
 {
-    let mut q = 0;
-    while q + 4 <= terms {
-        let x = q * 64;
-        leaves::pair4(c, ld, rows, &u[x..], &t[q..]);
-        q += 4;
+    for p in 0..terms / 4 {
+        let q = p * 4;
+        leaves::pair4(c, ld, rows, &u[q * 64..], &t[q..]);
     }
+    let q = terms / 4 * 4;
     if q == terms {
         return;
     }
-    let y = q * 64;
-    two_rest(c, ld, rows, terms - q, &u[y..], &t[q..]);
+    two_rest(c, ld, rows, terms - q, &u[q * 64..], &t[q..]);
 }
 
 // A diagonal block is cut into small triangles of this order, or what is left of n.
 pub fn small(n: usize) -> usize
     ensures { (result ≤ 16) × (result ≤ n) × ((0 < n) → 0 < result) }
 {
-    arrays::smaller(16, n)
+    n.min(16)
 }
 
-// The product of two packed blocks, added to rows by cols entries of c.
-pub fn block(c: &mut [f64], ld: usize, rows: usize, cols: usize, terms: usize, u: &[f64], t: &[f64])
-    requires ld_nonzero { (0 < ld) × (rows ≤ ld) × (cols * ld + rows ≤ length c.old + ld) }
-    requires rows_bound { (rows ≤ 64) × (terms ≤ 64) × (terms * 64 + rows ≤ length u.now + 64) × (cols * 64 + terms ≤ length t.now + 64) }
-    ensures { c.new ≡ update (region ld rows cols (packed terms u.now t.now)) c.old }
+// The product of two packed blocks, added to an area of c.
+pub fn block(c: &mut [f64], area: Area, terms: usize, u: &[f64], t: &[f64])
+    requires ld_nonzero { (0 < area.ld) × (area.rows ≤ area.ld) × (area.cols * area.ld + area.rows ≤ length c.old + area.ld) }
+    requires rows_bound { (area.rows ≤ 64) × (terms ≤ 64) × (terms * 64 + area.rows ≤ length u.now + 64) × (area.cols * 64 + terms ≤ length t.now + 64) }
+    ensures { c.new ≡ update (region area.ld area.rows area.cols (packed terms u.now t.now)) c.old }
 {
-    let mut j = 0;
-    while j + 2 <= cols {
-        let from = j * ld;
-        let x = j * 64;
-        two(&mut c[from..], ld, rows, terms, u, &t[x..]);
-        j += 2;
+    for p in 0..area.cols / 2 {
+        let j = p * 2;
+        two(
+            &mut c[j * area.ld..],
+            area.ld,
+            area.rows,
+            terms,
+            u,
+            &t[j * 64..],
+        );
     }
-    if j == cols {
+    let j = area.cols / 2 * 2;
+    if j == area.cols {
         return;
     }
-    let last = j * ld;
-    let y = j * 64;
-    column(&mut c[last..], rows, terms, u, &t[y..]);
+    column(&mut c[j * area.ld..], area.rows, terms, u, &t[j * 64..]);
 }

@@ -11,11 +11,9 @@ pub fn axpy(c: &mut [f64], n: usize, u: &[f64], t: &[f64]) -> usize
 {
     let t0 = t[0];
     let mut count = 0;
-    let mut i = 0;
-    while i < n {
+    for i in 0..n {
         c[i] = c[i] + t0 * u[i];
         count += 1;
-        i += 1;
     }
     count
 }
@@ -30,11 +28,9 @@ pub fn axpy4(c: &mut [f64], n: usize, u: &[f64], t: &[f64]) -> usize
     let t2 = t[2];
     let t3 = t[3];
     let mut count = 0;
-    let mut i = 0;
-    while i < n {
+    for i in 0..n {
         c[i] = (((c[i] + t0 * u[i]) + t1 * u[64 + i]) + t2 * u[128 + i]) + t3 * u[192 + i];
         count += 1;
-        i += 1;
     }
     count
 }
@@ -53,12 +49,10 @@ pub fn axpy8(c: &mut [f64], n: usize, u: &[f64], t: &[f64]) -> usize
     let t6 = t[6];
     let t7 = t[7];
     let mut count = 0;
-    let mut i = 0;
-    while i < n {
+    for i in 0..n {
         let x = (((c[i] + t0 * u[i]) + t1 * u[64 + i]) + t2 * u[128 + i]) + t3 * u[192 + i];
         c[i] = (((x + t4 * u[256 + i]) + t5 * u[320 + i]) + t6 * u[384 + i]) + t7 * u[448 + i];
         count += 1;
-        i += 1;
     }
     count
 }
@@ -98,13 +92,11 @@ pub fn pair(c: &mut [f64], ld: usize, n: usize, u: &[f64], t: &[f64])
 {
     let t0 = t[0];
     let s0 = t[64];
-    let mut i = 0;
-    while i < n {
+    for i in 0..n {
         let x = c[i] + t0 * u[i];
         let y = c[ld + i] + s0 * u[i];
         c[i] = x;
         c[ld + i] = y;
-        i += 1;
     }
 }
 
@@ -121,12 +113,10 @@ pub fn pair4(c: &mut [f64], ld: usize, n: usize, u: &[f64], t: &[f64])
     let s1 = t[65];
     let s2 = t[66];
     let s3 = t[67];
-    let mut i = 0;
-    while i < n {
+    for i in 0..n {
         let x = (((c[i] + t0 * u[i]) + t1 * u[64 + i]) + t2 * u[128 + i]) + t3 * u[192 + i];
         let y = (((c[ld + i] + s0 * u[i]) + s1 * u[64 + i]) + s2 * u[128 + i]) + s3 * u[192 + i];
         c[i] = x;
         c[ld + i] = y;
-        i += 1;
     }
 }

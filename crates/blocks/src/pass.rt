@@ -4,15 +4,15 @@ ghost use Rattle.std.specs.Float.Ieee as Ieee;
 ghost use Rattle.arrays.specs.Update.{update, below, region};
 ghost use Rattle.floats.specs.Operations.{◌⊗◌, ◌⊘◌, 0f};
 
+use arrays::Area;
+
 // +0.0 in each element below n.
 pub fn clear_column(c: &mut [f64], n: usize)
     requires { n ≤ length c.old }
     ensures { c.new ≡ update (below n (λ i x. 0f)) c.old }
 {
-    let mut i = 0;
-    while i < n {
+    for i in 0..n {
         c[i] = 0.0;
-        i += 1;
     }
 }
 
@@ -21,10 +21,8 @@ pub fn scale_column(c: &mut [f64], n: usize, s: f64)
     requires { n ≤ length c.old }
     ensures { c.new ≡ update (below n (λ i x. s ⊗ x)) c.old }
 {
-    let mut i = 0;
-    while i < n {
+    for i in 0..n {
         c[i] = s * c[i];
-        i += 1;
     }
 }
 
@@ -33,36 +31,28 @@ pub fn divide_column(c: &mut [f64], n: usize, d: f64) -> bool
     requires { n ≤ length c.old }
     ensures { (c.new ≡ update (below n (λ i x. x ⊘ d)) c.old) × (result ≡ Ieee.eq d 0f) }
 {
-    let mut i = 0;
-    while i < n {
+    for i in 0..n {
         c[i] = c[i] / d;
-        i += 1;
     }
     d == 0.0
 }
 
-// +0.0 in rows by cols entries.
-pub fn clear(c: &mut [f64], ld: usize, rows: usize, cols: usize)
-    requires { (0 < ld) × (rows ≤ ld) × (cols * ld + rows ≤ length c.old + ld) }
-    ensures { c.new ≡ update (region ld rows cols (λ i j x. 0f)) c.old }
+// +0.0 in each entry of an area.
+pub fn clear(c: &mut [f64], area: Area)
+    requires { (0 < area.ld) × (area.rows ≤ area.ld) × (area.cols * area.ld + area.rows ≤ length c.old + area.ld) }
+    ensures { c.new ≡ update (region area.ld area.rows area.cols (λ i j x. 0f)) c.old }
 {
-    let mut j = 0;
-    while j < cols {
-        let from = j * ld;
-        clear_column(&mut c[from..], rows);
-        j += 1;
+    for j in 0..area.cols {
+        clear_column(&mut c[j * area.ld..], area.rows);
     }
 }
 
-// s times each of rows by cols entries.
-pub fn scale(c: &mut [f64], ld: usize, rows: usize, cols: usize, s: f64)
-    requires { (0 < ld) × (rows ≤ ld) × (cols * ld + rows ≤ length c.old + ld) }
-    ensures { c.new ≡ update (region ld rows cols (λ i j x. s ⊗ x)) c.old }
+// s times each entry of an area.
+pub fn scale(c: &mut [f64], area: Area, s: f64)
+    requires { (0 < area.ld) × (area.rows ≤ area.ld) × (area.cols * area.ld + area.rows ≤ length c.old + area.ld) }
+    ensures { c.new ≡ update (region area.ld area.rows area.cols (λ i j x. s ⊗ x)) c.old }
 {
-    let mut j = 0;
-    while j < cols {
-        let from = j * ld;
-        scale_column(&mut c[from..], rows, s);
-        j += 1;
+    for j in 0..area.cols {
+        scale_column(&mut c[j * area.ld..], area.rows, s);
     }
 }

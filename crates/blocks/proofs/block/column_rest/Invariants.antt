@@ -1,13 +1,8 @@
 -- `block::column_rest` meets its contract: the terms below q are done.
-use Prim.Native.Nat.{◌≤◌, ◌-◌}
 use mathlib.Core.Path.{◌≡◌}
-use lib.ListN.{length}
 use Rattle.arrays.specs.Update.{update, below}
 use Rattle.blocks.specs.Terms.{packed}
 use Rattle.blocks.proofs.block.column_rest.Given as goal
 
 abbrev pub invariant-loop-q : goal.invariant-loop-q
-invariant-loop-q l = (l.q ≤ l.terms) × (length l.c ≡ length l.initial.c) × (l.c ≡ update (below l.rows (λ i e. packed l.q l.u l.t i 0 e)) l.initial.c)
-
-abbrev pub decreases-loop-q : goal.decreases-loop-q
-decreases-loop-q l = l.terms - l.q
+invariant-loop-q l = l.c ≡ update (below l.rows (λ i e. packed l.q l.u l.t i 0 e)) l.initial.c

@@ -2,18 +2,13 @@
 use mathlib.Core.Path.{refl, sym, ap, ◌∙◌}
 use native.Mathlib.Omega.{arith}
 use lib.Ieee.{Float, nan}
-use lib.ListN.{set, length-set}
+use lib.ListN.{set}
 use Rattle.arrays.proofs.UpdateLaws.{below_none, below_more}
 use Rattle.blocks.proofs.TermLaws.{packed-eight}
 use Rattle.blocks.proofs.leaves.axpy8.Goals as goal
 
 pub loop-i-init : goal.loop-i-init
-loop-i-init c = (omega arith, refl, refl, below_none _ _)
+loop-i-init c = (refl, below_none _ _)
 
 pub loop-i-preserved : goal.loop-i-preserved
-loop-i-preserved c = (
-  omega arith,
-  omega arith,
-  simp length-set (omega arith),
-  ap (λ (x : Float). set c.loop-i.c c.loop-i.i x) (sym (packed-eight _ _ _ 0 _)) ∙ below_more nan _ _ _ _ c.loop-i.invariant.3 (omega arith),
-)
+loop-i-preserved c = (omega arith, ap (λ (x : Float). set c.loop-i.c c.loop-i.i x) (sym (packed-eight _ _ _ 0 _)) ∙ below_more nan _ _ _ _ c.loop-i.invariant.1 (omega arith))

@@ -1,13 +1,11 @@
 -- `pass::divide_column` meets its contract: the elements below i are done.
-use mathlib.Core.Path.{refl}
 use native.Mathlib.Omega.{arith}
 use lib.Ieee.{nan}
-use lib.ListN.{length-set}
 use Rattle.arrays.proofs.UpdateLaws.{below_none, below_more}
 use Rattle.blocks.proofs.pass.divide_column.Goals as goal
 
 pub loop-i-init : goal.loop-i-init
-loop-i-init c = (omega arith, refl, below_none _ _)
+loop-i-init c = below_none _ _
 
 pub loop-i-preserved : goal.loop-i-preserved
-loop-i-preserved c = (omega arith, simp length-set (omega arith), below_more nan _ _ _ _ c.loop-i.invariant.2 (omega arith))
+loop-i-preserved c = below_more nan _ _ _ _ c.loop-i.invariant (omega arith)
