@@ -4,6 +4,8 @@ ghost use Rattle.arrays.specs.Update.{update, below, region};
 ghost use Rattle.blocks.specs.Terms.{packed};
 
 use super::leaves;
+
+// The loops that take several terms or columns in a turn are `while` loops: as `for p in 0..terms / 4` or the like they make small products up to a tenth slower.
 use arrays::Area;
 
 // One column, term by term.
@@ -22,11 +24,11 @@ fn column_fours(c: &mut [f64], rows: usize, terms: usize, u: &[f64], t: &[f64])
     requires { (rows ≤ length c.old) × (rows ≤ 64) × (terms * 64 + rows ≤ length u.now + 64) × (terms ≤ length t.now) }
     ensures { c.new ≡ update (below rows (λ i e. packed terms u.now t.now i 0 e)) c.old }
 {
-    for p in 0..terms / 4 {
-        let q = p * 4;
+    let mut q = 0;
+    while q + 4 <= terms {
         leaves::axpy4(c, rows, &u[q * 64..], &t[q..]);
+        q += 4;
     }
-    let q = terms / 4 * 4;
     if q == terms {
         return;
     }
@@ -38,11 +40,11 @@ pub fn column(c: &mut [f64], rows: usize, terms: usize, u: &[f64], t: &[f64])
     requires { (rows ≤ length c.old) × (rows ≤ 64) × (terms * 64 + rows ≤ length u.now + 64) × (terms ≤ length t.now) }
     ensures { c.new ≡ update (below rows (λ i e. packed terms u.now t.now i 0 e)) c.old }
 {
-    for p in 0..terms / 8 {
-        let q = p * 8;
+    let mut q = 0;
+    while q + 8 <= terms {
         leaves::axpy8(c, rows, &u[q * 64..], &t[q..]);
+        q += 8;
     }
-    let q = terms / 8 * 8;
     if q == terms {
         return;
     }
@@ -67,11 +69,11 @@ fn two(c: &mut [f64], ld: usize, rows: usize, terms: usize, u: &[f64], t: &[f64]
     requires rows_in_bounds { (terms * 64 + rows ≤ length u.now + 64) × (64 + terms ≤ length t.now) }
     ensures { c.new ≡ update (region ld rows 2 (packed terms u.now t.now)) c.old }
 {
-    for p in 0..terms / 4 {
-        let q = p * 4;
+    let mut q = 0;
+    while q + 4 <= terms {
         leaves::pair4(c, ld, rows, &u[q * 64..], &t[q..]);
+        q += 4;
     }
-    let q = terms / 4 * 4;
     if q == terms {
         return;
     }
@@ -91,8 +93,8 @@ pub fn block(c: &mut [f64], area: Area, terms: usize, u: &[f64], t: &[f64])
     requires rows_bound { (area.rows ≤ 64) × (terms ≤ 64) × (terms * 64 + area.rows ≤ length u.now + 64) × (area.cols * 64 + terms ≤ length t.now + 64) }
     ensures { c.new ≡ update (region area.ld area.rows area.cols (packed terms u.now t.now)) c.old }
 {
-    for p in 0..area.cols / 2 {
-        let j = p * 2;
+    let mut j = 0;
+    while j + 2 <= area.cols {
         two(
             &mut c[j * area.ld..],
             area.ld,
@@ -101,8 +103,8 @@ pub fn block(c: &mut [f64], area: Area, terms: usize, u: &[f64], t: &[f64])
             u,
             &t[j * 64..],
         );
+        j += 2;
     }
-    let j = area.cols / 2 * 2;
     if j == area.cols {
         return;
     }

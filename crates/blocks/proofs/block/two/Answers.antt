@@ -1,25 +1,17 @@
--- `block::two` meets its contract: the terms of the first p turns are done, four in a turn.
-use Prim.Native.Nat.{◌+◌, ◌-◌, ◌*◌, ◌/◌}
+-- `block::two` meets its contract: the terms below q are done, four in a turn.
+use Prim.Native.Nat.{◌-◌, ◌+◌}
 use mathlib.Core.Path.{◌≡◌}
 use native.Mathlib.Omega.{arith}
 use Rattle.blocks.proofs.TermLaws.{region-none, region-more}
 use Rattle.blocks.proofs.block.two.Goals as goal
 
-pub loop-p-init : goal.loop-p-init
-loop-p-init c = region-none _ _ _ _ _ _
+pub loop-q-init : goal.loop-q-init
+loop-q-init c = (omega arith, region-none _ _ _ _ _ _)
 
-pub loop-p-preserved : goal.loop-p-preserved
-loop-p-preserved c =
-    let next : c.loop-p.p * 4 + 4 ≡ (c.loop-p.p + 1) * 4 = omega arith in
-    rw next at (region-more _ _ _ _ _ _ (omega arith) _ _ _ _ c.loop-p.invariant c.pair4.ensures)
-
-pub returns-then-q-terms : goal.returns-then-q-terms
-returns-then-q-terms c =
-    let all : c.loop-p.p * 4 ≡ c.args.terms = omega arith in
-    rw all at c.loop-p.invariant
+pub loop-q-preserved : goal.loop-q-preserved
+loop-q-preserved c = (omega arith, region-more _ _ _ _ _ _ (omega arith) _ _ _ _ c.loop-q.invariant.1 c.pair4.ensures)
 
 pub returns : goal.returns
 returns c =
-    let turns : c.loop-p.p ≡ c.args.terms / 4 = omega arith in
-    let all : c.args.terms / 4 * 4 + (c.args.terms - c.args.terms / 4 * 4) ≡ c.args.terms = omega arith in
-    rw all at (region-more _ _ _ _ _ _ (omega arith) _ _ _ _ (rw turns at c.loop-p.invariant) c.two_rest.ensures)
+    let e : c.loop-q.q + (c.args.terms - c.loop-q.q) ≡ c.args.terms = omega arith in
+    rw e at (region-more _ _ _ _ _ _ (omega arith) _ _ _ _ c.loop-q.invariant.1 c.two_rest.ensures)
