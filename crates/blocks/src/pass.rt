@@ -1,19 +1,39 @@
-// One pass over a column, cleared, scaled or divided, or over a region, cleared or scaled.
-ghost use Rattle.std.specs.Prelude.{◌≡◌, ◌+◌, ◌*◌, ◌≤◌, ◌<◌, length};
+// One pass over a column, cleared, scaled or divided, or over an area, cleared or scaled.
+ghost use Rattle.std.specs.Prelude.{◌≡◌, ◌+◌, ◌*◌, ◌≤◌, ◌<◌, length, Float};
 ghost use Rattle.std.specs.Float.Ieee as Ieee;
 ghost use Rattle.arrays.specs.Update.{update, below, region};
 ghost use Rattle.floats.specs.Operations.{◌⊗◌, ◌⊘◌, 0f};
 
 use arrays::Area;
 
+// Each element below n becomes what f makes of it.
+fn each<F: Fn(f64) -> f64>(c: &mut [f64], n: usize, f: &F)
+    requires callable { F.IsAlwaysCallable f.now }
+    requires fits { n ≤ length c.old }
+    ensures { (g : Float → Float) → ((x r : Float) → F.post f.now x r → r ≡ g x) → c.new ≡ update (below n (λ i x. g x)) c.old }
+{
+    for i in 0..n {
+        c[i] = f(c[i]);
+    }
+}
+
+// Each entry of an area becomes what f makes of it.
+fn each_entry<F: Fn(f64) -> f64>(c: &mut [f64], area: Area, f: &F)
+    requires callable { F.IsAlwaysCallable f.now }
+    requires fits { (0 < area.ld) × (area.rows ≤ area.ld) × (area.cols * area.ld + area.rows ≤ length c.old + area.ld) }
+    ensures { (g : Float → Float) → ((x r : Float) → F.post f.now x r → r ≡ g x) → c.new ≡ update (region area.ld area.rows area.cols (λ i j x. g x)) c.old }
+{
+    for j in 0..area.cols {
+        each(&mut c[j * area.ld..], area.rows, f);
+    }
+}
+
 // +0.0 in each element below n.
 pub fn clear_column(c: &mut [f64], n: usize)
     requires { n ≤ length c.old }
     ensures { c.new ≡ update (below n (λ i x. 0f)) c.old }
 {
-    for i in 0..n {
-        c[i] = 0.0;
-    }
+    each(c, n, &|_| 0.0);
 }
 
 // s times each element below n.
@@ -21,9 +41,7 @@ pub fn scale_column(c: &mut [f64], n: usize, s: f64)
     requires { n ≤ length c.old }
     ensures { c.new ≡ update (below n (λ i x. s ⊗ x)) c.old }
 {
-    for i in 0..n {
-        c[i] = s * c[i];
-    }
+    each(c, n, &|x| s * x);
 }
 
 // Each element below n divided by d. It hands back whether d is zero.
@@ -31,9 +49,7 @@ pub fn divide_column(c: &mut [f64], n: usize, d: f64) -> bool
     requires { n ≤ length c.old }
     ensures { (c.new ≡ update (below n (λ i x. x ⊘ d)) c.old) × (result ≡ Ieee.eq d 0f) }
 {
-    for i in 0..n {
-        c[i] = c[i] / d;
-    }
+    each(c, n, &|x| x / d);
     d == 0.0
 }
 
@@ -42,9 +58,7 @@ pub fn clear(c: &mut [f64], area: Area)
     requires { (0 < area.ld) × (area.rows ≤ area.ld) × (area.cols * area.ld + area.rows ≤ length c.old + area.ld) }
     ensures { c.new ≡ update (region area.ld area.rows area.cols (λ i j x. 0f)) c.old }
 {
-    for j in 0..area.cols {
-        clear_column(&mut c[j * area.ld..], area.rows);
-    }
+    each_entry(c, area, &|_| 0.0);
 }
 
 // s times each entry of an area.
@@ -52,7 +66,5 @@ pub fn scale(c: &mut [f64], area: Area, s: f64)
     requires { (0 < area.ld) × (area.rows ≤ area.ld) × (area.cols * area.ld + area.rows ≤ length c.old + area.ld) }
     ensures { c.new ≡ update (region area.ld area.rows area.cols (λ i j x. s ⊗ x)) c.old }
 {
-    for j in 0..area.cols {
-        scale_column(&mut c[j * area.ld..], area.rows, s);
-    }
+    each_entry(c, area, &|x| s * x);
 }

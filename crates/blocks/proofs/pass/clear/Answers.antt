@@ -1,14 +1,9 @@
--- `pass::clear` meets its contract: the columns below j are done.
-use native.Mathlib.Omega.{arith}
-use lib.Ieee.{nan}
-use Rattle.arrays.proofs.PartLaws.{column-room}
-use Rattle.arrays.proofs.RegionLaws.{region-no-columns, region-column}
+-- `pass::clear` meets its contract: what the closure makes of an element.
+use lib.Ieee.{of_bits}
+use borrow.Author.Rules.{rules}
+use Rattle.floats.specs.Operations.{0f}
 use Rattle.blocks.proofs.pass.clear.Goals as goal
 
-pub loop-j-init : goal.loop-j-init
-loop-j-init c = region-no-columns _ _ _ _
-
-pub loop-j-preserved : goal.loop-j-preserved
-loop-j-preserved c =
-    let room = column-room c.args.area.ld c.loop-j-test.true in
-    region-column nan _ (omega arith) _ _ _ _ _ _ (omega arith) (omega (arith, room)) c.loop-j.invariant c.clear_column.ensures
+pub returns : goal.returns
+unfolding of_bits
+returns c = c.each_entry.ensures (λ x. 0f) (λ x r e. search rules)

@@ -1,11 +1,10 @@
--- `pass::divide_column` meets its contract: the elements below i are done.
-use native.Mathlib.Omega.{arith}
-use lib.Ieee.{nan}
-use Rattle.arrays.proofs.UpdateLaws.{below_none, below_more}
+-- `pass::divide_column` meets its contract: what the closure makes of an element.
+use mathlib.Core.Path.{refl}
+use lib.Ieee.{of_bits}
+use borrow.Author.Rules.{rules}
+use Rattle.floats.specs.Operations.{◌⊘◌}
 use Rattle.blocks.proofs.pass.divide_column.Goals as goal
 
-pub loop-i-init : goal.loop-i-init
-loop-i-init c = below_none _ _
-
-pub loop-i-preserved : goal.loop-i-preserved
-loop-i-preserved c = below_more nan _ _ _ _ c.loop-i.invariant (omega arith)
+pub returns : goal.returns
+unfolding of_bits
+returns c = (c.each.ensures (λ x. x ⊘ c.args.d) (λ x r e. search rules), refl)

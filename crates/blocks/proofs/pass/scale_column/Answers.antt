@@ -1,11 +1,7 @@
--- `pass::scale_column` meets its contract: the elements below i are done.
-use native.Mathlib.Omega.{arith}
-use lib.Ieee.{nan}
-use Rattle.arrays.proofs.UpdateLaws.{below_none, below_more}
+-- `pass::scale_column` meets its contract: what the closure makes of an element.
+use borrow.Author.Rules.{rules}
+use Rattle.floats.specs.Operations.{◌⊗◌}
 use Rattle.blocks.proofs.pass.scale_column.Goals as goal
 
-pub loop-i-init : goal.loop-i-init
-loop-i-init c = below_none _ _
-
-pub loop-i-preserved : goal.loop-i-preserved
-loop-i-preserved c = below_more nan _ _ _ _ c.loop-i.invariant (omega arith)
+pub returns : goal.returns
+returns c = c.each.ensures (λ x. c.args.s ⊗ x) (λ x r e. search rules)
