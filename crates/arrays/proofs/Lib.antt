@@ -7,3 +7,4 @@ pub mod MaskLaws
 pub mod TrapezoidLaws
 pub mod FoldLaws
 pub mod SearchLaws
+pub mod PieceLaws

@@ -2,6 +2,8 @@
 // indices.
 #![tactic(auto)]
 
+pub mod pieces;
+
 ghost use Rattle.std.specs.Prelude.{◌≡◌, ◌≤◌, ◌<◌, if◌then◌else◌};
 ghost use Rattle.arrays.specs.Choice.{least};
 

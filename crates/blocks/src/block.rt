@@ -5,6 +5,9 @@ ghost use Rattle.blocks.specs.Terms.{packed};
 
 use super::leaves;
 
+// A diagonal block is cut into small triangles of this order.
+pub const SMALL: usize = 16;
+
 // The loops that take several terms or columns in a turn are `while` loops: as `for p in 0..terms / 4` or the like they make small products up to a tenth slower.
 use arrays::Area;
 
@@ -78,13 +81,6 @@ fn two(c: &mut [f64], ld: usize, rows: usize, terms: usize, u: &[f64], t: &[f64]
         return;
     }
     two_rest(c, ld, rows, terms - q, &u[q * 64..], &t[q..]);
-}
-
-// A diagonal block is cut into small triangles of this order, or what is left of n.
-pub fn small(n: usize) -> usize
-    ensures { (result ≤ 16) × (result ≤ n) × ((0 < n) → 0 < result) }
-{
-    n.min(16)
 }
 
 // The product of two packed blocks, added to an area of c.

@@ -7,6 +7,8 @@ ghost use Rattle.arrays.specs.Update.{update, entries, only, trapezoid, corner};
 ghost use Rattle.blocks.specs.Terms.{packed, AtOnce};
 ghost use Rattle.walks.specs.Walk.{passes};
 
+use arrays::Area;
+use arrays::pieces::Pieces;
 use blocks::{block, leaves};
 
 // One walk over a diagonal block: as many terms as one pass takes are added to each element of the triangle. A column's loop stays inside it, from the diagonal to the block's end
@@ -25,14 +27,12 @@ fn walk(
     ensures { (result ≡ passes order) × (c.new ≡ update (entries ld (only (corner lower order order) (packed terms u.now t.now))) c.old) }
 {
     let mut count = 0;
-    let mut j = 0;
-    while j < order {
+    for j in 0..order {
         let first = arrays::pick(lower, j, 0);
         let rows = arrays::pick(lower, order - j, j + 1);
         let from = j * ld + first;
         let x = j * 64;
         count += leaves::axpys(&mut c[from..], rows, terms, &u[first..], &t[x..]);
-        j += 1;
     }
     count
 }
@@ -71,7 +71,8 @@ fn columns(
     let top = arrays::pick(lower, end, 0);
     let rows = arrays::pick(lower, order - end, j);
     walks(lower, &mut c[j..], ld, h, terms, &u[j..], t);
-    block::block(&mut c[top..], ld, rows, h, terms, &u[top..], t);
+    let beside = Area { ld, rows, cols: h };
+    block::block(&mut c[top..], beside, terms, &u[top..], t);
 }
 
 // The product of two packed blocks in one triangle.
@@ -79,12 +80,9 @@ pub fn cut(lower: bool, c: &mut [f64], ld: usize, order: usize, terms: usize, u:
     requires { (0 < ld) × (order ≤ ld) × (order * ld + order ≤ length c.old + ld) × (order ≤ 64) × (terms ≤ 64) × (4096 ≤ length u.now) × (order * 64 ≤ length t.now) }
     ensures { c.new ≡ update (entries ld (only (corner lower order order) (packed terms u.now t.now))) c.old }
 {
-    let mut j = 0;
-    while j < order {
-        let h = block::small(order - j);
+    for (j, h) in Pieces::of(order, block::SMALL) {
         let from = j * ld;
         let x = j * 64;
         columns(lower, &mut c[from..], ld, order, j, h, terms, u, &t[x..]);
-        j += h;
     }
 }

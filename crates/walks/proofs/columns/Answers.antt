@@ -1,4 +1,4 @@
--- `triangles::columns` meets its contract: its part of the triangle is the small triangle on the diagonal and the rectangle beside it.
+-- `walks::columns` meets its contract: its part of the triangle is the small triangle on the diagonal and the rectangle beside it.
 use Prim.Native.Nat.{ℕ, ◌≤◌, ◌<◌, ◌+◌, ◌*◌}
 use mathlib.Core.Path.{refl}
 use native.Mathlib.Omega.{arith}

@@ -1,4 +1,4 @@
--- `triangles::walk` meets its contract: the columns below j are done, and their passes are counted.
+-- `walks::walk` meets its contract: the columns below j are done, and their passes are counted.
 use Prim.Native.Nat.{◌≤◌, ◌<◌, ◌+◌, ◌*◌}
 use mathlib.Core.Path.{◌≡◌, refl, ap, ◌∙◌}
 use native.Mathlib.Omega.{arith}
@@ -20,13 +20,13 @@ room : (c : After-pick-rows) → (c.pick-first.result + c.pick-rows.result ≤ c
 room c = (rows-room c.args.lower _ _ _ _ (inside c) c.loop-j-test.true, column-room _ c.loop-j-test.true, at-once-some c.requires.at_once.0)
 
 pub loop-j-init : goal.loop-j-init
-loop-j-init c = (omega arith, refl, omega arith, counted_none c.args.lower c.args.order, none_yet _ _ _ _ _ _)
+loop-j-init c = (omega arith, counted_none c.args.lower c.args.order, none_yet _ _ _ _ _ _)
 
 pub loop-j-preserved : goal.loop-j-preserved
 loop-j-preserved c =
-    let e = corner-next c.args.lower _ _ _ _ _ _ _ _ _ _ _ (omega arith) (omega arith) c.loop-j-test.true (inside (goal.at.loop-j-preserved c).After-pick-rows) (omega (arith, room (goal.at.loop-j-preserved c).After-pick-rows)) c.loop-j.invariant.4 c.axpys-count.ensures.1 in
+    let e = corner-next c.args.lower _ _ _ _ _ _ _ _ _ _ _ (omega arith) (omega arith) c.loop-j-test.true (inside (goal.at.loop-j-preserved c).After-pick-rows) (omega (arith, room (goal.at.loop-j-preserved c).After-pick-rows)) c.loop-j.invariant.2 c.axpys-count.ensures.1 in
     let n = c.axpys-count.ensures.0 in
-    (omega arith, ap length e ∙ length-update _ _, omega (arith, room (goal.at.loop-j-preserved c).After-pick-rows, n), rw n (counted-more c.args.lower _ _ _ _ _ (inside (goal.at.loop-j-preserved c).After-pick-rows) c.loop-j-test.true c.loop-j.invariant.3), e)
+    (omega (arith, room (goal.at.loop-j-preserved c).After-pick-rows, n), rw n (counted-more c.args.lower _ _ _ _ _ (inside (goal.at.loop-j-preserved c).After-pick-rows) c.loop-j-test.true c.loop-j.invariant.1), e)
 
 pub returns : goal.returns
-returns c = let e : c.loop-j.j ≡ c.args.order = omega arith in (counted-all c.args.lower _ _ (rw e at c.loop-j.invariant.3), rw e at c.loop-j.invariant.4)
+returns c = let e : c.loop-j.j ≡ c.args.order = omega arith in (counted-all c.args.lower _ _ (rw e at c.loop-j.invariant.1), rw e at c.loop-j.invariant.2)

@@ -1,4 +1,4 @@
--- `triangles::walk` meets its contract: the columns below j are done, and their passes are counted.
+-- `walks::walk` meets its contract: the columns below j are done, and their passes are counted.
 use Prim.Native.Nat.{◌≤◌, ◌-◌, ◌*◌}
 use mathlib.Core.Path.{◌≡◌}
 use lib.ListN.{length}
@@ -8,9 +8,4 @@ use Rattle.walks.proofs.WalkLaws.{Counted}
 use Rattle.walks.proofs.walk.Given as goal
 
 abbrev pub invariant-loop-j : goal.invariant-loop-j
-invariant-loop-j l =
-    (l.j ≤ l.order) × (length l.c ≡ length l.initial.c) × (l.count ≤ l.j * 64) × Counted l.lower l.order l.j l.count
-    × (l.c ≡ update (entries l.ld (only (corner l.lower l.order l.j) (packed l.terms l.u l.t))) l.initial.c)
-
-abbrev pub decreases-loop-j : goal.decreases-loop-j
-decreases-loop-j l = l.order - l.j
+invariant-loop-j l = (l.count ≤ l.j * 64) × Counted l.lower l.order l.j l.count × (l.c ≡ update (entries l.ld (only (corner l.lower l.order l.j) (packed l.terms l.u l.t))) l.initial.c)

@@ -1,4 +1,4 @@
--- `triangles::walks` meets its contract: the terms below q are done.
+-- `walks::walks` meets its contract: the terms below q are done.
 use mathlib.Core.Path.{refl, ap, ◌∙◌}
 use native.Mathlib.Omega.{arith}
 use lib.ListN.{length}

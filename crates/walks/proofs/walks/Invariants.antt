@@ -1,4 +1,4 @@
--- `triangles::walks` meets its contract: the terms below q are done.
+-- `walks::walks` meets its contract: the terms below q are done.
 use Prim.Native.Nat.{◌≤◌, ◌-◌}
 use mathlib.Core.Path.{◌≡◌}
 use lib.ListN.{length}
