@@ -5,40 +5,47 @@
 ghost use Rattle.std.specs.Prelude.{◌≡◌, true, false, ℕ, ◌+◌, ◌*◌, ◌≤◌, ◌<◌, length};
 ghost use Rattle.arrays.specs.Update.{update, below, entries, only, region, corner};
 ghost use Rattle.floats.specs.Array.{at};
-ghost use Rattle.packing.specs.Factor.{is_mirrored, index_of, entry_of};
-ghost use Rattle.direct.specs.Product.{strided, row_stride, column_stride, from_row, from_column, product};
+ghost use Rattle.packing.specs.Factor.{is_mirrored};
+ghost use Rattle.direct.specs.Product.{strided, row_stride, column_stride, product, product_of, Reads};
 
+use arrays::Area;
+use packing::factor::Factor;
 use packing::{Form, factor, mirror};
 
+// A product of two factors, `terms` terms for each element, times alpha.
+#[derive(Clone, Copy)]
+pub struct Product<'a> {
+    pub left: Factor<'a>,
+    pub right: Factor<'a>,
+    pub terms: usize,
+    pub alpha: f64,
+}
+
+// A factor that is read by two strides: entry (i, j) is element i * row + j * column.
+#[derive(Clone, Copy)]
+struct Strided<'a> {
+    cells: &'a [f64],
+    row: usize,
+    column: usize,
+}
+
 // Four elements of a column.
-fn quad(
-    c: &mut [f64],
-    k: usize,
-    a: &[f64],
-    ra: usize,
-    ca: usize,
-    b: &[f64],
-    rb: usize,
-    alpha: f64,
-    down: bool,
-)
-    requires { (4 ≤ length c.old) × ((i l : ℕ) → i < 4 → l < k → i * ra + l * ca < length a.now) × ((l : ℕ) → l < k → l * rb < length b.now) }
-    ensures { c.new ≡ update (below 4 (λ i e. product alpha (strided a.now ra ca) (λ l _. at b.now (l * rb)) down k i 0 e)) c.old }
+fn quad(c: &mut [f64], k: usize, a: Strided, b: &[f64], rb: usize, alpha: f64, down: bool)
+    requires { (4 ≤ length c.old) × ((i l : ℕ) → i < 4 → l < k → i * a.row + l * a.column < length a.cells.now) × ((l : ℕ) → l < k → l * rb < length b.now) }
+    ensures { c.new ≡ update (below 4 (λ i e. product alpha (strided a.entry.cells.now a.entry.row a.entry.column) (λ l _. at b.now (l * rb)) down k i 0 e)) c.old }
 {
     let mut e = c[0];
     let mut f = c[1];
     let mut g = c[2];
     let mut h = c[3];
-    let mut q = 0;
-    while q < k {
+    for q in 0..k {
         let l = factor::turn_of(down, k, q);
         let t = alpha * b[l * rb];
-        let p = l * ca;
-        e = e + t * a[p];
-        f = f + t * a[p + ra];
-        g = g + t * a[p + 2 * ra];
-        h = h + t * a[p + 3 * ra];
-        q += 1;
+        let p = l * a.column;
+        e = e + t * a.cells[p];
+        f = f + t * a.cells[p + a.row];
+        g = g + t * a.cells[p + 2 * a.row];
+        h = h + t * a.cells[p + 3 * a.row];
     }
     c[0] = e;
     c[1] = f;
@@ -61,12 +68,10 @@ fn single(
     ensures { c.new ≡ update (below 1 (λ i e. product alpha (λ _ l. at a.now (l * ca)) (λ l _. at b.now (l * rb)) down k i 0 e)) c.old }
 {
     let mut e = c[0];
-    let mut q = 0;
-    while q < k {
+    for q in 0..k {
         let l = factor::turn_of(down, k, q);
         let t = alpha * b[l * rb];
         e = e + t * a[l * ca];
-        q += 1;
     }
     c[0] = e;
 }
@@ -76,22 +81,18 @@ fn singles(
     c: &mut [f64],
     rows: usize,
     k: usize,
-    a: &[f64],
-    ra: usize,
-    ca: usize,
+    a: Strided,
     b: &[f64],
     rb: usize,
     alpha: f64,
     down: bool,
 )
-    requires { (rows ≤ length c.old) × (0 < k) × ((i l : ℕ) → i < rows → l < k → i * ra + l * ca < length a.now) × ((l : ℕ) → l < k → l * rb < length b.now) }
-    ensures { c.new ≡ update (below rows (λ i e. product alpha (strided a.now ra ca) (λ l _. at b.now (l * rb)) down k i 0 e)) c.old }
+    requires { (rows ≤ length c.old) × (0 < k) × ((i l : ℕ) → i < rows → l < k → i * a.row + l * a.column < length a.cells.now) × ((l : ℕ) → l < k → l * rb < length b.now) }
+    ensures { c.new ≡ update (below rows (λ i e. product alpha (strided a.entry.cells.now a.entry.row a.entry.column) (λ l _. at b.now (l * rb)) down k i 0 e)) c.old }
 {
-    let mut i = 0;
-    while i < rows {
-        let x = i * ra;
-        single(&mut c[i..], k, &a[x..], ca, b, rb, alpha, down);
-        i += 1;
+    for i in 0..rows {
+        let x = i * a.row;
+        single(&mut c[i..], k, &a.cells[x..], a.column, b, rb, alpha, down);
     }
 }
 
@@ -100,34 +101,44 @@ fn column(
     c: &mut [f64],
     rows: usize,
     k: usize,
-    a: &[f64],
-    ra: usize,
-    ca: usize,
+    a: Strided,
     b: &[f64],
     rb: usize,
     alpha: f64,
     down: bool,
 )
-    requires { (rows ≤ length c.old) × (0 < k) × ((i l : ℕ) → i < rows → l < k → i * ra + l * ca < length a.now) × ((l : ℕ) → l < k → l * rb < length b.now) }
-    ensures { c.new ≡ update (below rows (λ i e. product alpha (strided a.now ra ca) (λ l _. at b.now (l * rb)) down k i 0 e)) c.old }
+    requires { (rows ≤ length c.old) × (0 < k) × ((i l : ℕ) → i < rows → l < k → i * a.row + l * a.column < length a.cells.now) × ((l : ℕ) → l < k → l * rb < length b.now) }
+    ensures { c.new ≡ update (below rows (λ i e. product alpha (strided a.entry.cells.now a.entry.row a.entry.column) (λ l _. at b.now (l * rb)) down k i 0 e)) c.old }
 {
     let mut i = 0;
     while i + 4 <= rows {
-        let x = i * ra;
-        quad(&mut c[i..], k, &a[x..], ra, ca, b, rb, alpha, down);
+        let x = i * a.row;
+        quad(
+            &mut c[i..],
+            k,
+            Strided {
+                cells: &a.cells[x..],
+                ..a
+            },
+            b,
+            rb,
+            alpha,
+            down,
+        );
         i += 4;
     }
     if i == rows {
         return;
     }
-    let y = i * ra;
+    let y = i * a.row;
     singles(
         &mut c[i..],
         rows - i,
         k,
-        &a[y..],
-        ra,
-        ca,
+        Strided {
+            cells: &a.cells[y..],
+            ..a
+        },
         b,
         rb,
         alpha,
@@ -136,31 +147,24 @@ fn column(
 }
 
 // The columns one after the other.
-fn columns(
-    c: &mut [f64],
-    ld: usize,
-    rows: usize,
-    cols: usize,
-    k: usize,
-    a: &[f64],
-    ra: usize,
-    ca: usize,
-    b: &[f64],
-    rb: usize,
-    cb: usize,
-    alpha: f64,
-    down: bool,
-)
-    requires rows_nonzero { (0 < rows) × (rows ≤ ld) × (cols * ld + rows ≤ length c.old + ld) × (0 < k) }
-    requires by_index { ((i l : ℕ) → i < rows → l < k → i * ra + l * ca < length a.now) × ((l j : ℕ) → l < k → j < cols → l * rb + j * cb < length b.now) }
-    ensures { c.new ≡ update (region ld rows cols (product alpha (strided a.now ra ca) (strided b.now rb cb) down k)) c.old }
+fn columns(c: &mut [f64], area: Area, k: usize, a: Strided, b: Strided, alpha: f64, down: bool)
+    requires rows_nonzero { (0 < area.rows) × (area.rows ≤ area.ld) × (area.cols * area.ld + area.rows ≤ length c.old + area.ld) × (0 < k) }
+    requires by_index { ((i l : ℕ) → i < area.rows → l < k → i * a.row + l * a.column < length a.cells.now) × ((l j : ℕ) → l < k → j < area.cols → l * b.row + j * b.column < length b.cells.now) }
+    ensures { c.new ≡ update (region area.ld area.rows area.cols (product alpha (strided a.entry.cells.now a.entry.row a.entry.column) (strided b.entry.cells.now b.entry.row b.entry.column) down k)) c.old }
 {
-    let mut j = 0;
-    while j < cols {
-        let from = j * ld;
-        let x = j * cb;
-        column(&mut c[from..], rows, k, a, ra, ca, &b[x..], rb, alpha, down);
-        j += 1;
+    for j in 0..area.cols {
+        let from = j * area.ld;
+        let x = j * b.column;
+        column(
+            &mut c[from..],
+            area.rows,
+            k,
+            a,
+            &b.cells[x..],
+            b.row,
+            alpha,
+            down,
+        );
     }
 }
 
@@ -171,41 +175,35 @@ fn corner_columns(
     ld: usize,
     order: usize,
     k: usize,
-    a: &[f64],
-    ra: usize,
-    ca: usize,
-    b: &[f64],
-    rb: usize,
-    cb: usize,
+    a: Strided,
+    b: Strided,
     alpha: f64,
 )
     requires order_nonzero { (0 < order) × (order ≤ ld) × (order * ld + order ≤ length c.old + ld) × (0 < k) }
-    requires by_index { ((i l : ℕ) → i < order → l < k → i * ra + l * ca < length a.now) × ((l j : ℕ) → l < k → j < order → l * rb + j * cb < length b.now) }
-    ensures { c.new ≡ update (entries ld (only (corner lower order order) (product alpha (strided a.now ra ca) (strided b.now rb cb) false k))) c.old }
+    requires by_index { ((i l : ℕ) → i < order → l < k → i * a.row + l * a.column < length a.cells.now) × ((l j : ℕ) → l < k → j < order → l * b.row + j * b.column < length b.cells.now) }
+    ensures { c.new ≡ update (entries ld (only (corner lower order order) (product alpha (strided a.entry.cells.now a.entry.row a.entry.column) (strided b.entry.cells.now b.entry.row b.entry.column) false k))) c.old }
 {
-    let mut j = 0;
-    while j < order {
+    for j in 0..order {
         let first = arrays::pick(lower, j, 0);
         let rows = arrays::pick(lower, order - j, j + 1);
         let from = j * ld + first;
-        let x = first * ra;
-        let y = j * cb;
+        let x = first * a.row;
+        let y = j * b.column;
         columns(
             &mut c[from..],
-            ld,
-            rows,
-            1,
+            Area { ld, rows, cols: 1 },
             k,
-            &a[x..],
-            ra,
-            ca,
-            &b[y..],
-            rb,
-            cb,
+            Strided {
+                cells: &a.cells[x..],
+                ..a
+            },
+            Strided {
+                cells: &b.cells[y..],
+                ..b
+            },
             alpha,
             false,
         );
-        j += 1;
     }
 }
 
@@ -234,213 +232,107 @@ fn column_stride(form: Form, ld: usize) -> usize
 }
 
 // Neither factor is mirrored.
-fn strides(
-    c: &mut [f64],
-    ld: usize,
-    rows: usize,
-    cols: usize,
-    k: usize,
-    fa: Form,
-    a: &[f64],
-    lda: usize,
-    i0: usize,
-    fb: Form,
-    b: &[f64],
-    ldb: usize,
-    j0: usize,
-    alpha: f64,
-    down: bool,
-)
-    requires rows_nonzero { (0 < rows) × (rows ≤ ld) × (cols * ld + rows ≤ length c.old + ld) × (0 < cols) × (0 < k) }
-    requires rows_bound { (i0 + rows < 18446744073709551616) × (j0 + cols < 18446744073709551616) × (is_mirrored fa ≡ false) × (is_mirrored fb ≡ false) }
-    requires by_index { ((i l : ℕ) → i < rows → l < k → index_of fa lda (i0 + i) l < length a.now) × ((l j : ℕ) → l < k → j < cols → index_of fb ldb l (j0 + j) < length b.now) }
-    ensures { c.new ≡ update (region ld rows cols (product alpha (from_row i0 (entry_of fa a.now lda)) (from_column j0 (entry_of fb b.now ldb)) down k)) c.old }
+fn strides(c: &mut [f64], area: Area, p: Product, i0: usize, j0: usize, down: bool)
+    requires rows_nonzero { (0 < area.rows) × (area.rows ≤ area.ld) × (area.cols * area.ld + area.rows ≤ length c.old + area.ld) × (0 < area.cols) × (0 < p.terms) }
+    requires rows_bound { (i0 + area.rows < 18446744073709551616) × (j0 + area.cols < 18446744073709551616) × (is_mirrored p.left.form ≡ false) × (is_mirrored p.right.form ≡ false) }
+    requires by_index { Reads p i0 area.rows j0 area.cols }
+    ensures { c.new ≡ update (region area.ld area.rows area.cols (product_of p.entry i0 j0 down)) c.old }
 {
-    let ra = row_stride(fa, lda);
-    let ca = column_stride(fa, lda);
-    let rb = row_stride(fb, ldb);
-    let cb = column_stride(fb, ldb);
+    let ra = row_stride(p.left.form, p.left.ld);
+    let ca = column_stride(p.left.form, p.left.ld);
+    let rb = row_stride(p.right.form, p.right.ld);
+    let cb = column_stride(p.right.form, p.right.ld);
     let x = i0 * ra;
     let y = j0 * cb;
     columns(
         c,
-        ld,
-        rows,
-        cols,
-        k,
-        &a[x..],
-        ra,
-        ca,
-        &b[y..],
-        rb,
-        cb,
-        alpha,
+        area,
+        p.terms,
+        Strided {
+            cells: &p.left.cells[x..],
+            row: ra,
+            column: ca,
+        },
+        Strided {
+            cells: &p.right.cells[y..],
+            row: rb,
+            column: cb,
+        },
+        p.alpha,
         down,
     );
 }
 
-// The left factor is mirrored: it is written out to u first, with columns s apart.
-fn left_written(
+// The left factor is mirrored: it is written out first, to a buffer of N elements with columns s apart.
+fn left_mirrored<const N: usize>(
     c: &mut [f64],
-    ld: usize,
-    rows: usize,
-    cols: usize,
-    k: usize,
-    fa: Form,
-    a: &[f64],
-    lda: usize,
+    area: Area,
+    p: Product,
     i0: usize,
-    fb: Form,
-    b: &[f64],
-    ldb: usize,
     j0: usize,
-    alpha: f64,
     down: bool,
     s: usize,
-    u: &mut [f64],
 )
-    requires rows_nonzero { (0 < rows) × (rows ≤ ld) × (cols * ld + rows ≤ length c.old + ld) × (0 < cols) × (rows ≤ s) × (0 < k) × (k * s ≤ length u.old) }
-    requires rows_bound { (i0 + rows < 18446744073709551616) × (j0 + cols < 18446744073709551616) × (is_mirrored fa ≡ true) × (is_mirrored fb ≡ false) }
-    requires by_index { ((i l : ℕ) → i < rows → l < k → index_of fa lda (i0 + i) l < length a.now) × ((l j : ℕ) → l < k → j < cols → index_of fb ldb l (j0 + j) < length b.now) }
-    ensures { c.new ≡ update (region ld rows cols (product alpha (from_row i0 (entry_of fa a.now lda)) (from_column j0 (entry_of fb b.now ldb)) down k)) c.old }
+    requires rows_nonzero { (0 < area.rows) × (area.rows ≤ area.ld) × (area.cols * area.ld + area.rows ≤ length c.old + area.ld) × (0 < area.cols) × (area.rows ≤ s) × (0 < p.terms) × (p.terms * s ≤ N) × (N ≤ 256) }
+    requires rows_bound { (i0 + area.rows < 18446744073709551616) × (j0 + area.cols < 18446744073709551616) × (is_mirrored p.left.form ≡ true) × (is_mirrored p.right.form ≡ false) }
+    requires by_index { Reads p i0 area.rows j0 area.cols }
+    ensures { c.new ≡ update (region area.ld area.rows area.cols (product_of p.entry i0 j0 down)) c.old }
 {
-    let lower = mirror::is_lower(fa);
-    mirror::block(u, s, rows, k, lower, a, lda, i0, 0);
-    strides(
-        c,
-        ld,
-        rows,
-        cols,
-        k,
-        Form::Plain,
-        u,
+    let mut u = [0.0f64; N];
+    let lower = mirror::is_lower(p.left.form);
+    mirror::block(
+        &mut u,
         s,
-        0,
-        fb,
-        b,
-        ldb,
-        j0,
-        alpha,
-        down,
-    );
-}
-
-// The same, in a buffer that is as small as can be.
-fn left_mirrored(
-    c: &mut [f64],
-    ld: usize,
-    rows: usize,
-    cols: usize,
-    k: usize,
-    fa: Form,
-    a: &[f64],
-    lda: usize,
-    i0: usize,
-    fb: Form,
-    b: &[f64],
-    ldb: usize,
-    j0: usize,
-    alpha: f64,
-    down: bool,
-)
-    requires rows_nonzero { (0 < rows) × (rows ≤ ld) × (cols * ld + rows ≤ length c.old + ld) × (0 < cols) × (rows ≤ 16) × (0 < k) × (k ≤ 16) }
-    requires rows_bound { (i0 + rows < 18446744073709551616) × (j0 + cols < 18446744073709551616) × (is_mirrored fa ≡ true) × (is_mirrored fb ≡ false) }
-    requires by_index { ((i l : ℕ) → i < rows → l < k → index_of fa lda (i0 + i) l < length a.now) × ((l j : ℕ) → l < k → j < cols → index_of fb ldb l (j0 + j) < length b.now) }
-    ensures { c.new ≡ update (region ld rows cols (product alpha (from_row i0 (entry_of fa a.now lda)) (from_column j0 (entry_of fb b.now ldb)) down k)) c.old }
-{
-    if within(rows, rows, k, 8) {
-        let mut u = [0.0f64; 64];
-        left_written(
-            c, ld, rows, cols, k, fa, a, lda, i0, fb, b, ldb, j0, alpha, down, 8, &mut u,
-        );
-        return;
-    }
-    let mut u = [0.0f64; 256];
-    left_written(
-        c, ld, rows, cols, k, fa, a, lda, i0, fb, b, ldb, j0, alpha, down, 16, &mut u,
-    );
-}
-
-// The right factor is, and t takes it.
-fn right_written(
-    c: &mut [f64],
-    ld: usize,
-    rows: usize,
-    cols: usize,
-    k: usize,
-    fa: Form,
-    a: &[f64],
-    lda: usize,
-    i0: usize,
-    fb: Form,
-    b: &[f64],
-    ldb: usize,
-    j0: usize,
-    alpha: f64,
-    down: bool,
-    s: usize,
-    t: &mut [f64],
-)
-    requires rows_nonzero { (0 < rows) × (rows ≤ ld) × (cols * ld + rows ≤ length c.old + ld) × (0 < cols) × (k ≤ s) × (0 < k) × (cols * s ≤ length t.old) }
-    requires rows_bound { (i0 + rows < 18446744073709551616) × (j0 + cols < 18446744073709551616) × (is_mirrored fa ≡ false) × (is_mirrored fb ≡ true) }
-    requires by_index { ((i l : ℕ) → i < rows → l < k → index_of fa lda (i0 + i) l < length a.now) × ((l j : ℕ) → l < k → j < cols → index_of fb ldb l (j0 + j) < length b.now) }
-    ensures { c.new ≡ update (region ld rows cols (product alpha (from_row i0 (entry_of fa a.now lda)) (from_column j0 (entry_of fb b.now ldb)) down k)) c.old }
-{
-    let lower = mirror::is_lower(fb);
-    mirror::block(t, s, k, cols, lower, b, ldb, 0, j0);
-    strides(
-        c,
-        ld,
-        rows,
-        cols,
-        k,
-        fa,
-        a,
-        lda,
+        area.rows,
+        p.terms,
+        lower,
+        p.left.cells,
+        p.left.ld,
         i0,
-        Form::Plain,
-        t,
-        s,
         0,
-        alpha,
-        down,
     );
+    let left = Factor {
+        form: Form::Plain,
+        cells: &u,
+        ld: s,
+    };
+    strides(c, area, Product { left, ..p }, 0, j0, down);
 }
 
-// The same, in a buffer that is as small as can be.
-fn right_mirrored(
+// The right factor is.
+fn right_mirrored<const N: usize>(
     c: &mut [f64],
-    ld: usize,
-    rows: usize,
-    cols: usize,
-    k: usize,
-    fa: Form,
-    a: &[f64],
-    lda: usize,
+    area: Area,
+    p: Product,
     i0: usize,
-    fb: Form,
-    b: &[f64],
-    ldb: usize,
     j0: usize,
-    alpha: f64,
     down: bool,
+    s: usize,
 )
-    requires rows_nonzero { (0 < rows) × (rows ≤ ld) × (cols * ld + rows ≤ length c.old + ld) × (0 < cols) × (cols ≤ 16) × (0 < k) × (k ≤ 16) }
-    requires rows_bound { (i0 + rows < 18446744073709551616) × (j0 + cols < 18446744073709551616) × (is_mirrored fa ≡ false) × (is_mirrored fb ≡ true) }
-    requires by_index { ((i l : ℕ) → i < rows → l < k → index_of fa lda (i0 + i) l < length a.now) × ((l j : ℕ) → l < k → j < cols → index_of fb ldb l (j0 + j) < length b.now) }
-    ensures { c.new ≡ update (region ld rows cols (product alpha (from_row i0 (entry_of fa a.now lda)) (from_column j0 (entry_of fb b.now ldb)) down k)) c.old }
+    requires rows_nonzero { (0 < area.rows) × (area.rows ≤ area.ld) × (area.cols * area.ld + area.rows ≤ length c.old + area.ld) × (0 < area.cols) × (p.terms ≤ s) × (0 < p.terms) × (area.cols * s ≤ N) × (N ≤ 256) }
+    requires rows_bound { (i0 + area.rows < 18446744073709551616) × (j0 + area.cols < 18446744073709551616) × (is_mirrored p.left.form ≡ false) × (is_mirrored p.right.form ≡ true) }
+    requires by_index { Reads p i0 area.rows j0 area.cols }
+    ensures { c.new ≡ update (region area.ld area.rows area.cols (product_of p.entry i0 j0 down)) c.old }
 {
-    if within(cols, cols, k, 8) {
-        let mut t = [0.0f64; 64];
-        right_written(
-            c, ld, rows, cols, k, fa, a, lda, i0, fb, b, ldb, j0, alpha, down, 8, &mut t,
-        );
-        return;
-    }
-    let mut t = [0.0f64; 256];
-    right_written(
-        c, ld, rows, cols, k, fa, a, lda, i0, fb, b, ldb, j0, alpha, down, 16, &mut t,
+    let mut t = [0.0f64; N];
+    let lower = mirror::is_lower(p.right.form);
+    mirror::block(
+        &mut t,
+        s,
+        p.terms,
+        area.cols,
+        lower,
+        p.right.cells,
+        p.right.ld,
+        0,
+        j0,
     );
+    let right = Factor {
+        form: Form::Plain,
+        cells: &t,
+        ld: s,
+    };
+    strides(c, area, Product { right, ..p }, i0, 0, down);
 }
 
 // At most `limit` each way.
@@ -490,46 +382,33 @@ pub fn is_tiny_triangle(fa: Form, fb: Form, order: usize, k: usize) -> bool
 }
 
 // A tiny product.
-pub fn direct(
-    c: &mut [f64],
-    ld: usize,
-    rows: usize,
-    cols: usize,
-    k: usize,
-    fa: Form,
-    a: &[f64],
-    lda: usize,
-    i0: usize,
-    fb: Form,
-    b: &[f64],
-    ldb: usize,
-    j0: usize,
-    alpha: f64,
-    down: bool,
-)
-    requires rows_nonzero { (0 < rows) × (rows ≤ ld) × (cols * ld + rows ≤ length c.old + ld) × (0 < cols) }
-    requires rows_bound { (i0 + rows < 18446744073709551616) × (j0 + cols < 18446744073709551616) × (is_mirrored fa ≡ true → (rows ≤ 16) × (k ≤ 16) × (is_mirrored fb ≡ false)) × (is_mirrored fb ≡ true → (cols ≤ 16) × (k ≤ 16)) }
-    requires by_index { ((i l : ℕ) → i < rows → l < k → index_of fa lda (i0 + i) l < length a.now) × ((l j : ℕ) → l < k → j < cols → index_of fb ldb l (j0 + j) < length b.now) }
-    ensures { c.new ≡ update (region ld rows cols (product alpha (from_row i0 (entry_of fa a.now lda)) (from_column j0 (entry_of fb b.now ldb)) down k)) c.old }
+pub fn direct(c: &mut [f64], area: Area, p: Product, i0: usize, j0: usize, down: bool)
+    requires rows_nonzero { (0 < area.rows) × (area.rows ≤ area.ld) × (area.cols * area.ld + area.rows ≤ length c.old + area.ld) × (0 < area.cols) }
+    requires rows_bound { (i0 + area.rows < 18446744073709551616) × (j0 + area.cols < 18446744073709551616) × (is_mirrored p.left.form ≡ true → (area.rows ≤ 16) × (p.terms ≤ 16) × (is_mirrored p.right.form ≡ false)) × (is_mirrored p.right.form ≡ true → (area.cols ≤ 16) × (p.terms ≤ 16)) }
+    requires by_index { Reads p i0 area.rows j0 area.cols }
+    ensures { c.new ≡ update (region area.ld area.rows area.cols (product_of p.entry i0 j0 down)) c.old }
 {
-    if k == 0 {
+    if p.terms == 0 {
         return;
     }
-    if mirror::is_mirrored(fa) {
-        left_mirrored(
-            c, ld, rows, cols, k, fa, a, lda, i0, fb, b, ldb, j0, alpha, down,
-        );
+    // A buffer is as small as can be.
+    if mirror::is_mirrored(p.left.form) {
+        if within(area.rows, area.rows, p.terms, 8) {
+            left_mirrored::<64>(c, area, p, i0, j0, down, 8);
+            return;
+        }
+        left_mirrored::<256>(c, area, p, i0, j0, down, 16);
         return;
     }
-    if mirror::is_mirrored(fb) {
-        right_mirrored(
-            c, ld, rows, cols, k, fa, a, lda, i0, fb, b, ldb, j0, alpha, down,
-        );
+    if mirror::is_mirrored(p.right.form) {
+        if within(area.cols, area.cols, p.terms, 8) {
+            right_mirrored::<64>(c, area, p, i0, j0, down, 8);
+            return;
+        }
+        right_mirrored::<256>(c, area, p, i0, j0, down, 16);
         return;
     }
-    strides(
-        c, ld, rows, cols, k, fa, a, lda, i0, fb, b, ldb, j0, alpha, down,
-    );
+    strides(c, area, p, i0, j0, down);
 }
 
 // A tiny product in one triangle, of factors that are not mirrored.
@@ -538,29 +417,22 @@ pub fn triangle(
     c: &mut [f64],
     ld: usize,
     order: usize,
-    k: usize,
-    fa: Form,
-    a: &[f64],
-    lda: usize,
+    p: Product,
     i0: usize,
-    fb: Form,
-    b: &[f64],
-    ldb: usize,
     j0: usize,
-    alpha: f64,
 )
     requires order_nonzero { (0 < order) × (order ≤ ld) × (order * ld + order ≤ length c.old + ld) }
-    requires order_bound { (i0 + order < 18446744073709551616) × (j0 + order < 18446744073709551616) × (is_mirrored fa ≡ false) × (is_mirrored fb ≡ false) }
-    requires by_index { ((i l : ℕ) → i < order → l < k → index_of fa lda (i0 + i) l < length a.now) × ((l j : ℕ) → l < k → j < order → index_of fb ldb l (j0 + j) < length b.now) }
-    ensures { c.new ≡ update (entries ld (only (corner lower order order) (product alpha (from_row i0 (entry_of fa a.now lda)) (from_column j0 (entry_of fb b.now ldb)) false k))) c.old }
+    requires order_bound { (i0 + order < 18446744073709551616) × (j0 + order < 18446744073709551616) × (is_mirrored p.left.form ≡ false) × (is_mirrored p.right.form ≡ false) }
+    requires by_index { Reads p i0 order j0 order }
+    ensures { c.new ≡ update (entries ld (only (corner lower order order) (product_of p.entry i0 j0 false))) c.old }
 {
-    if k == 0 {
+    if p.terms == 0 {
         return;
     }
-    let ra = row_stride(fa, lda);
-    let ca = column_stride(fa, lda);
-    let rb = row_stride(fb, ldb);
-    let cb = column_stride(fb, ldb);
+    let ra = row_stride(p.left.form, p.left.ld);
+    let ca = column_stride(p.left.form, p.left.ld);
+    let rb = row_stride(p.right.form, p.right.ld);
+    let cb = column_stride(p.right.form, p.right.ld);
     let x = i0 * ra;
     let y = j0 * cb;
     corner_columns(
@@ -568,13 +440,17 @@ pub fn triangle(
         c,
         ld,
         order,
-        k,
-        &a[x..],
-        ra,
-        ca,
-        &b[y..],
-        rb,
-        cb,
-        alpha,
+        p.terms,
+        Strided {
+            cells: &p.left.cells[x..],
+            row: ra,
+            column: ca,
+        },
+        Strided {
+            cells: &p.right.cells[y..],
+            row: rb,
+            column: cb,
+        },
+        p.alpha,
     );
 }

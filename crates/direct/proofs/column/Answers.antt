@@ -20,7 +20,7 @@ pub offset_bounds-a-x : goal.offset_bounds-a-x
 offset_bounds-a-x c = omega (arith, c.requires.2 c.loop-i.i 0 (omega arith) c.requires.1)
 
 pub quad-requires : goal.quad-requires
-quad-requires c = (simp tail-length (omega arith), (λ r l hr h. simp tail-length (omega (arith, c.requires.2 (c.loop-i.i + r) l (omega arith) h, add-mul c.loop-i.i r c.args.ra))), c.requires.3)
+quad-requires c = (simp tail-length (omega arith), (λ r l hr h. simp tail-length (omega (arith, c.requires.2 (c.loop-i.i + r) l (omega arith) h, add-mul c.loop-i.i r c.args.a.row))), c.requires.3)
 
 pub loop-i-preserved : goal.loop-i-preserved
 loop-i-preserved c = let e = column-part _ (strided _ _ _) _ _ _ _ _ 4 _ _ _ (omega arith) (λ r q hr hq. rows-part _ _ _ _ r q) c.loop-i.invariant.2 c.quad.ensures in
@@ -33,7 +33,7 @@ pub offset_bounds-a-y : goal.offset_bounds-a-y
 offset_bounds-a-y c = omega (arith, c.requires.2 c.loop-i.i 0 (omega arith) c.requires.1)
 
 pub singles-requires : goal.singles-requires
-singles-requires c = (simp tail-length (omega arith), c.requires.1, (λ r l hr h. simp tail-length (omega (arith, c.requires.2 (c.loop-i.i + r) l (omega arith) h, add-mul c.loop-i.i r c.args.ra))), c.requires.3)
+singles-requires c = (simp tail-length (omega arith), c.requires.1, (λ r l hr h. simp tail-length (omega (arith, c.requires.2 (c.loop-i.i + r) l (omega arith) h, add-mul c.loop-i.i r c.args.a.row))), c.requires.3)
 
 pub returns : goal.returns
 returns c = let e : c.loop-i.i + (c.args.rows - c.loop-i.i) ≡ c.args.rows = omega arith in

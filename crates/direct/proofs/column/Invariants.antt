@@ -8,7 +8,7 @@ use Prim.Native.Nat.{◌≤◌, ◌-◌, ◌*◌}
 use Rattle.direct.proofs.column.Given as goal
 
 abbrev pub invariant-loop-i : goal.invariant-loop-i
-invariant-loop-i l = (l.i ≤ l.rows) × (length l.c ≡ length l.initial.c) × (l.c ≡ update (below l.i (λ p e. product l.alpha (strided l.a l.ra l.ca) (λ l' _. at l.b (l' * l.rb)) l.down l.k p 0 e)) l.initial.c)
+invariant-loop-i l = (l.i ≤ l.rows) × (length l.c ≡ length l.initial.c) × (l.c ≡ update (below l.i (λ p e. product l.alpha (strided l.a.cells.now l.a.row l.a.column) (λ l' _. at l.b (l' * l.rb)) l.down l.k p 0 e)) l.initial.c)
 
 abbrev pub decreases-loop-i : goal.decreases-loop-i
 decreases-loop-i l = l.rows - l.i

@@ -2,15 +2,12 @@
 use Rattle.direct.proofs.DirectLaws.{right-column}
 use Rattle.arrays.proofs.RegionLaws.{region-no-columns, region-column}
 use Rattle.arrays.proofs.PartLaws.{column-room}
-use Rattle.arrays.proofs.UpdateLaws.{length-update}
-use lib.ListN.{length}
 use lib.Ieee.{nan}
-use mathlib.Core.Path.{refl, ap, ◌∙◌}
 use native.Mathlib.Omega.{arith}
 use Rattle.direct.proofs.columns.Goals as goal
 
 pub loop-j-init : goal.loop-j-init
-loop-j-init c = (omega arith, refl, region-no-columns _ _ _ _)
+loop-j-init c = region-no-columns _ _ _ _
 
 pub offset_bounds-b-x : goal.offset_bounds-b-x
 offset_bounds-b-x c = omega (arith, c.requires.by_index.1 0 c.loop-j.j (omega arith) c.loop-j-test.true)
@@ -22,6 +19,5 @@ pub slice_bounds-column-start-in-loop-j : goal.slice_bounds-column-start-in-loop
 slice_bounds-column-start-in-loop-j c = omega (arith, c.requires.by_index.1 0 c.loop-j.j (omega arith) c.loop-j-test.true)
 
 pub loop-j-preserved : goal.loop-j-preserved
-loop-j-preserved c = let room = column-room c.args.ld c.loop-j-test.true in
-    let e = region-column nan _ (omega arith) _ _ _ _ _ _ (omega arith) (omega (arith, room)) c.loop-j.invariant.2 (right-column _ _ _ _ _ _ _ _ _ _ _ c.column.ensures) in
-    (omega arith, ap length e ∙ length-update _ _, e)
+loop-j-preserved c = let room = column-room c.args.area.ld c.loop-j-test.true in
+    region-column nan _ (omega arith) _ _ _ _ _ _ (omega arith) (omega (arith, room)) c.loop-j.invariant (right-column _ _ _ _ _ _ _ _ _ _ _ c.column.ensures)

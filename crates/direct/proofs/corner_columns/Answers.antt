@@ -1,13 +1,12 @@
 -- `direct::corner_columns` meets its contract: the columns below j are done.
 use Prim.Native.Nat.{ℕ, ◌≤◌, ◌<◌, ◌+◌, ◌*◌}
 use mathlib.Core.Bool.{false}
-use mathlib.Core.Path.{◌≡◌, refl, sym, ap, ◌∙◌}
+use mathlib.Core.Path.{◌≡◌, refl, sym}
 use native.Mathlib.Nat.{zero-add, add-mul}
 use native.Mathlib.Omega.{arith}
 use lib.Ieee.{nan}
 use lib.ListN.{length}
 use Rattle.arrays.proofs.PartLaws.{tail-length, column-room}
-use Rattle.arrays.proofs.UpdateLaws.{length-update}
 use Rattle.direct.specs.Product.{strided, product}
 use Rattle.direct.proofs.DirectLaws.{one-column-of}
 use Rattle.arrays.proofs.TrapezoidLaws.{Inside, rows-room, rows-some, none_yet, column-more}
@@ -28,7 +27,7 @@ record Turn (order j first rows ld lc lefts la rights lb : ℕ) : Type 0 where
   left : lefts < la
   right : rights < lb
 
-turn : (c : After-pick-rows) → Turn c.args.order c.loop-j.j c.pick-first.result c.pick-rows.result c.args.ld (length c.args.c.now) (c.pick-first.result * c.args.ra) (length c.args.a.now) (c.loop-j.j * c.args.cb) (length c.args.b.now)
+turn : (c : After-pick-rows) → Turn c.args.order c.loop-j.j c.pick-first.result c.pick-rows.result c.args.ld (length c.args.c.now) (c.pick-first.result * c.args.a.row) (length c.args.a.cells.now) (c.loop-j.j * c.args.b.column) (length c.args.b.cells.now)
 turn c =
     let inside : Inside c.args.lower c.args.order c.loop-j.j c.pick-first.result c.pick-rows.result = (c.pick-first.ensures, c.pick-rows.ensures) in
     let some = rows-some c.args.lower _ _ _ _ (inside) c.loop-j-test.true in
@@ -43,7 +42,7 @@ turn c =
     }
 
 pub loop-j-init : goal.loop-j-init
-loop-j-init c = (omega arith, refl, none_yet _ _ _ _ _ _)
+loop-j-init c = none_yet _ _ _ _ _ _
 
 pub overflow_mul-x : goal.overflow_mul-x
 overflow_mul-x c = omega (arith, turn (goal.at.overflow_mul-x c).After-pick-rows)
@@ -71,13 +70,12 @@ columns-requires c =
     let t = turn (goal.at.columns-requires c).After-pick-rows in record {
       rows_nonzero = simp tail-length (omega (arith, t));
       by_index = (
-        (λ i l hi hl. simp tail-length (omega (arith, c.requires.by_index.0 (c.pick-first.result + i) l (omega (arith, t)) hl, add-mul c.pick-first.result i c.args.ra))),
+        (λ i l hi hl. simp tail-length (omega (arith, c.requires.by_index.0 (c.pick-first.result + i) l (omega (arith, t)) hl, add-mul c.pick-first.result i c.args.a.row))),
         (λ l j hl hj. let z : j ≡ 0 = omega arith in rw z (simp tail-length (omega (arith, c.requires.by_index.1 l c.loop-j.j hl c.loop-j-test.true)))),
       );
     }
 
 pub loop-j-preserved : goal.loop-j-preserved
 loop-j-preserved c =
-    let e = column-more 0 _ c.loop-j.j c.loop-j.j c.pick-first.result c.pick-rows.result (sym (zero-add c.loop-j.j)) c.loop-j-test.true nan c.args.lower (product c.args.alpha (strided c.args.a.now c.args.ra c.args.ca) (strided c.args.b.now c.args.rb c.args.cb) false c.args.k) _ _ _ _ _ _ (inside (goal.at.loop-j-preserved c).After-pick-rows) (omega arith) (omega arith) refl (omega (arith, turn (goal.at.loop-j-preserved c).After-pick-rows)) c.loop-j.invariant.2
-    (one-column-of c.args.alpha c.args.a.now c.args.ra c.args.ca c.args.b.now c.args.rb c.args.cb false c.args.k c.args.ld c.pick-rows.result c.pick-first.result c.loop-j.j _ _ (omega arith) (omega (arith, turn (goal.at.loop-j-preserved c).After-pick-rows)) c.columns.ensures) (λ i x. refl) in
-    (omega arith, ap length e ∙ length-update _ _, e)
+    column-more 0 _ c.loop-j.j c.loop-j.j c.pick-first.result c.pick-rows.result (sym (zero-add c.loop-j.j)) c.loop-j-test.true nan c.args.lower (product c.args.alpha (strided c.args.a.cells.now c.args.a.row c.args.a.column) (strided c.args.b.cells.now c.args.b.row c.args.b.column) false c.args.k) _ _ _ _ _ _ (inside (goal.at.loop-j-preserved c).After-pick-rows) (omega arith) (omega arith) refl (omega (arith, turn (goal.at.loop-j-preserved c).After-pick-rows)) c.loop-j.invariant
+    (one-column-of c.args.alpha c.args.a.cells.now c.args.a.row c.args.a.column c.args.b.cells.now c.args.b.row c.args.b.column false c.args.k c.args.ld c.pick-rows.result c.pick-first.result c.loop-j.j _ _ (omega arith) (omega (arith, turn (goal.at.loop-j-preserved c).After-pick-rows)) c.columns.ensures) (λ i x. refl)
