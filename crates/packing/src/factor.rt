@@ -1,5 +1,5 @@
 // The places of a factor's entries, and the order in which its terms are taken.
-ghost use Rattle.std.specs.Prelude.{◌≡◌, false, ◌+◌, ◌<◌};
+ghost use Rattle.std.specs.Prelude.{◌≡◌, ◌+◌, ◌<◌};
 ghost use Rattle.packing.specs.Factor.{Indices, index_of, along, turn};
 
 use super::Form;
@@ -33,13 +33,6 @@ pub fn place(form: Form, ld: usize, i: usize, j: usize) -> usize
 }
 
 impl Run {
-    // The indices from this one up.
-    pub fn up(from: usize) -> Run
-        ensures { (result.from ≡ from) × (result.down ≡ false) }
-    {
-        Run { from, down: false }
-    }
-
     // The q-th of them.
     pub fn index(self, q: usize) -> usize
         requires { Indices self.down self.from (q + 1) }

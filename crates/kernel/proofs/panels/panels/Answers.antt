@@ -1,18 +1,19 @@
--- `panels::panels` meets its contract: the terms below l are done.
+-- `panels::panels` meets its contract: the terms before the next piece are done.
 use Prim.Native.Nat.{ℕ, ◌≤◌, ◌<◌, ◌+◌, ◌*◌}
-use mathlib.Core.Path.{◌≡◌, refl, ap, ◌∙◌}
+use mathlib.Core.Path.{refl, sym, ap, ◌∙◌}
 use native.Mathlib.Omega.{arith}
 use lib.ListN.{length}
+use Rattle.arrays.proofs.PieceLaws.{turn, last}
 use Rattle.arrays.proofs.UpdateLaws.{length-update}
 use Rattle.direct.specs.Product.{product}
 use Rattle.packing.proofs.FactorLaws.{upward, along-up, turn_below, turn_along, panel-indices}
 use Rattle.direct.proofs.DirectLaws.{partly_none}
 use Rattle.kernel.proofs.PanelLaws.{panel-next}
 use Rattle.kernel.proofs.panels.panels.Goals as goal
-use Rattle.kernel.proofs.panels.panels.Goals.{After-smaller-n}
+use Rattle.kernel.proofs.panels.panels.Goals.{In-Some}
 
 -- in a turn: n terms from the l-th on
-record Turn (l n k r ld cols lt : ℕ) : Type 0 where
+record Terms (l n k r ld cols lt : ℕ) : Type 0 where
   some : 0 < n
   few : n ≤ 64
   within : l + n ≤ k
@@ -21,10 +22,11 @@ record Turn (l n k r ld cols lt : ℕ) : Type 0 where
   leading : 0 < ld
   buffer : cols * 64 ≤ lt
 
-turn : (c : After-smaller-n) → Turn c.loop-l.l c.smaller-n.result c.args.k c.args.r c.args.ld c.args.cols (length c.loop-l.t)
-turn c =
+terms : (c : In-Some) → Terms c.in-Some.l c.in-Some.n c.args.p.terms c.args.r c.args.area.ld c.args.area.cols (length c.loop-l.t)
+terms c =
+    let t = turn c.next.ensures.steps c.in-Some.is in
     record {
-      some = c.smaller-n.ensures.2 (omega arith) (omega arith);
+      some = omega arith;
       few = omega arith;
       within = omega arith;
       block = omega arith;
@@ -34,52 +36,52 @@ turn c =
     }
 
 pub loop-l-init : goal.loop-l-init
-loop-l-init c = (omega arith, refl, refl, refl, partly_none _ _ _ _ _ _ _ _ _)
+loop-l-init c = rw c.into_iter-l-iterator.ensures.into_iter_gives (omega arith, tt, c.of-l-items.ensures.1, c.of-l-items.ensures.2, rw c.of-l-items.ensures.0 (partly_none _ _ _ _ _ _ _ _ _))
 
 pub pack-requires : goal.pack-requires
 pack-requires c = (
-  omega (arith, turn (goal.at.pack-requires c).After-smaller-n),
-  omega (arith, turn (goal.at.pack-requires c).After-smaller-n),
+  omega (arith, terms (goal.at.pack-requires c).In-Some),
+  omega (arith, terms (goal.at.pack-requires c).In-Some),
   omega arith,
   omega arith,
-  panel-indices _ _ _ _ (omega arith) (omega (arith, turn (goal.at.pack-requires c).After-smaller-n)) (omega arith) c.turn_of-l0.ensures.0,
+  panel-indices _ _ _ _ (omega (arith, terms (goal.at.pack-requires c).In-Some)) (omega (arith, terms (goal.at.pack-requires c).In-Some)) (omega (arith, terms (goal.at.pack-requires c).In-Some)) c.turn_of.ensures.0,
   upward _ _ (omega arith),
   λ y x hy hx.
-      rw (turn_along c.args.down c.args.k c.loop-l.l y c.turn_of-l0.ensures.0, along-up c.args.j0 x refl)
-      (c.requires.by_index.1 _ x (turn_below c.args.down c.args.k (c.loop-l.l + y) (omega (arith, turn (goal.at.pack-requires c).After-smaller-n))) hx),
+      rw (turn_along c.args.down c.args.p.terms c.in-Some.l y c.turn_of.ensures.0, along-up c.args.j0 x refl)
+      (c.requires.by_index.1 _ x (turn_below c.args.down c.args.p.terms (c.in-Some.l + y) (omega (arith, terms (goal.at.pack-requires c).In-Some))) hx),
 )
 
 pub sweep-requires : goal.sweep-requires
 sweep-requires c =
     let e = ap length c.scale.ensures ∙ length-update _ _ ∙ ap length c.pack.ensures ∙ length-update _ _ in record {
-      ld_nonzero = omega (arith, turn (goal.at.sweep-requires c).After-smaller-n, e);
+      ld_nonzero = omega (arith, terms (goal.at.sweep-requires c).In-Some, e);
       terms_nonzero = (
-        omega (arith, turn (goal.at.sweep-requires c).After-smaller-n),
-        omega (arith, turn (goal.at.sweep-requires c).After-smaller-n),
-        omega (arith, turn (goal.at.sweep-requires c).After-smaller-n),
+        omega (arith, terms (goal.at.sweep-requires c).In-Some),
+        omega (arith, terms (goal.at.sweep-requires c).In-Some),
+        omega (arith, terms (goal.at.sweep-requires c).In-Some),
         omega arith,
         omega arith,
         omega arith,
-        panel-indices _ _ _ _ (omega (arith, turn (goal.at.sweep-requires c).After-smaller-n)) (omega (arith, turn (goal.at.sweep-requires c).After-smaller-n)) (omega arith) c.turn_of-l0.ensures.0,
+        panel-indices _ _ _ _ (omega (arith, terms (goal.at.sweep-requires c).In-Some)) (omega (arith, terms (goal.at.sweep-requires c).In-Some)) (omega (arith, terms (goal.at.sweep-requires c).In-Some)) c.turn_of.ensures.0,
       );
       by_index = λ i q hi hq.
-          rw (turn_along c.args.down c.args.k c.loop-l.l q c.turn_of-l0.ensures.0)
-          (c.requires.by_index.0 i _ hi (turn_below c.args.down c.args.k (c.loop-l.l + q) (omega (arith, turn (goal.at.sweep-requires c).After-smaller-n))));
+          rw (turn_along c.args.down c.args.p.terms c.in-Some.l q c.turn_of.ensures.0)
+          (c.requires.by_index.0 i _ hi (turn_below c.args.down c.args.p.terms (c.in-Some.l + q) (omega (arith, terms (goal.at.sweep-requires c).In-Some))));
     }
 
 pub loop-l-preserved : goal.loop-l-preserved
 loop-l-preserved c =
-    let n = turn (goal.at.loop-l-preserved c).After-smaller-n in
-    let e =
-    panel-next _ _ _ _ _ _ _ _ _ _ _ _ _ _ _ _ _ _ _ _ (omega (arith, n)) (omega (arith, n)) (omega (arith, n)) c.turn_of-l0.ensures.0
-    c.loop-l.invariant.4 c.pack.ensures c.scale.ensures c.sweep.ensures.0 in (
-      omega (arith, n),
-      ap length e ∙ length-update _ _,
-      c.sweep.ensures.1 ∙ c.loop-l.invariant.2,
-      ap length c.scale.ensures ∙ length-update _ _ ∙ ap length c.pack.ensures ∙ length-update _ _ ∙ c.loop-l.invariant.3,
-      e,
+    let t = turn c.next.ensures.steps c.in-Some.is in
+    let n = terms (goal.at.loop-l-preserved c).In-Some in (
+      omega arith,
+      tt,
+      omega arith,
+      omega arith,
+      rw t.next
+          (panel-next _ _ _ _ _ _ _ _ _ _ _ _ _ _ _ _ _ _ _ _ (omega (arith, n)) (omega (arith, n)) (omega (arith, n)) c.turn_of.ensures.0
+          (rw (sym t.first) at c.loop-l.invariant.4) c.pack.ensures c.scale.ensures c.sweep.ensures.0),
     )
 
 pub returns : goal.returns
 unfolding product
-returns c = let e : c.loop-l.l ≡ c.args.k = omega arith in rw e at c.loop-l.invariant.4
+returns c = let all = last c.next.ensures.steps c.in-None.is ∙ c.loop-l.invariant.2 in rw all at c.loop-l.invariant.4
