@@ -1,1 +1,2 @@
 pub mod Slab
+pub mod Part

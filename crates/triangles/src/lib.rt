@@ -5,14 +5,28 @@
 ghost use Rattle.std.specs.Prelude.{◌≡◌, false, ℕ, ◌+◌, ◌*◌, ◌≤◌, ◌<◌, length};
 ghost use Rattle.arrays.specs.Update.{update, entries, only, corner, trapezoid};
 ghost use Rattle.blocks.specs.Terms.{packed};
-ghost use Rattle.packing.specs.Factor.{Indices, is_mirrored, index_of, entry_of, along};
+ghost use Rattle.packing.specs.Factor.{Indices, is_mirrored, index_of, matrix_of, along};
 ghost use Rattle.kernel.specs.Panels.{half_packed};
-ghost use Rattle.direct.specs.Product.{from_column, product};
 ghost use Rattle.triangles.specs.Slab.{slab};
+ghost use Rattle.triangles.specs.Part.{part_of, product_of, Reads};
 
+use arrays::Area;
+use arrays::pieces::Pieces;
 use blocks::{block, pass};
+use direct::Product;
 use kernel::panels;
-use packing::{Form, pack};
+use packing::factor::{Factor, Run};
+use packing::pack;
+
+// Some columns of one triangle of order n: `cols` of them, from the one with number `from` on, in an array that starts with the first of them.
+#[derive(Clone, Copy)]
+pub struct Part {
+    pub lower: bool,
+    pub ld: usize,
+    pub n: usize,
+    pub from: usize,
+    pub cols: usize,
+}
 
 // The product of packed blocks in h rows of a square of which one triangle is written, from row x on: the block on the diagonal, and the columns before or after it.
 fn row(
@@ -40,289 +54,167 @@ fn row(
     }
     let e = first * ld;
     let z = first * 64;
-    block::block(&mut c[e..], ld, h, cols, terms, u, &t[z..]);
+    let beside = Area { ld, rows: h, cols };
+    block::block(&mut c[e..], beside, terms, u, &t[z..]);
 }
 
-// The terms of one panel, whose right block is packed in t, in one triangle of a square: the left factor by blocks of r rows from i0 on that are packed into u.
+// The n terms of one panel from the one with number `term` on, whose right block is packed in t, in one triangle of a square: the left factor by blocks of r rows from i0 on that are packed into u.
 fn square(
     lower: bool,
     c: &mut [f64],
     ld: usize,
     order: usize,
-    terms: usize,
-    fa: Form,
-    a: &[f64],
-    lda: usize,
+    n: usize,
+    a: Factor,
     i0: usize,
-    l0: usize,
+    term: usize,
     r: usize,
     u: &mut [f64],
     t: &[f64],
 )
     requires order_nonzero { (0 < order) × (order ≤ ld) × (order * ld + order ≤ length c.old + ld) × (0 < r) × (r ≤ 64) × (4096 ≤ length u.old) × (order * 64 ≤ length t.now) }
-    requires terms_nonzero { (0 < terms) × (terms ≤ 64) × (i0 + order < 18446744073709551616) × Indices false l0 terms }
-    requires by_index { (i q : ℕ) → i < order → q < terms → index_of fa lda (i0 + i) (along false l0 q) < length a.now }
-    ensures { (c.new ≡ update (entries ld (only (corner lower order order) (half_packed terms t.now (λ i q. entry_of fa a.now lda (i0 + i) (along false l0 q))))) c.old) × (length u.new ≡ length u.old) }
+    requires terms_nonzero { (0 < n) × (n ≤ 64) × (i0 + order < 18446744073709551616) × Indices false term n }
+    requires by_index { (i q : ℕ) → i < order → q < n → index_of a.form a.ld (i0 + i) (along false term q) < length a.cells.now }
+    ensures { (c.new ≡ update (entries ld (only (corner lower order order) (half_packed n t.now (λ i q. matrix_of a.entry (i0 + i) (along false term q))))) c.old) × (length u.new ≡ length u.old) }
 {
-    let mut x = 0;
-    while x < order {
-        let h = arrays::smaller(r, order - x);
-        pack::pack(u, h, terms, fa, a, lda, i0 + x, false, l0, false);
-        row(lower, &mut c[x..], ld, order, x, h, terms, u, t);
-        x += h;
+    for (x, h) in Pieces::of(order, r) {
+        let rows = Run {
+            from: i0 + x,
+            down: false,
+        };
+        let terms = Run {
+            from: term,
+            down: false,
+        };
+        pack::pack(u, h, n, a, rows, terms);
+        row(lower, &mut c[x..], ld, order, x, h, n, u, t);
     }
 }
 
-// The terms of one panel in the columns from `from` on, `cols` of them: in the square on the diagonal, and in the rectangle below or above it.
+// The same in some columns of a triangle: in the square on the diagonal, and in the rectangle below or above it.
 fn panel(
-    lower: bool,
     c: &mut [f64],
-    ld: usize,
+    part: Part,
     n: usize,
-    cols: usize,
-    from: usize,
-    terms: usize,
-    fa: Form,
-    a: &[f64],
-    lda: usize,
-    l0: usize,
+    a: Factor,
+    term: usize,
     r: usize,
     u: &mut [f64],
     t: &[f64],
 )
-    requires n_le_ld { (n ≤ ld) × (cols * ld + n ≤ length c.old + ld) × (0 < cols) × (from + cols ≤ n) × (0 < r) × (r ≤ 64) × (4096 ≤ length u.old) × (cols * 64 ≤ length t.now) }
-    requires terms_nonzero { (0 < terms) × (terms ≤ 64) × Indices false l0 terms }
-    requires by_index { (i q : ℕ) → i < n → q < terms → index_of fa lda i (along false l0 q) < length a.now }
-    ensures { (c.new ≡ update (entries ld (only (trapezoid lower from n cols) (half_packed terms t.now (λ i q. entry_of fa a.now lda i (along false l0 q))))) c.old) × (length u.new ≡ length u.old) }
+    requires n_le_ld { (part.n ≤ part.ld) × (part.cols * part.ld + part.n ≤ length c.old + part.ld) × (0 < part.cols) × (part.from + part.cols ≤ part.n) × (0 < r) × (r ≤ 64) × (4096 ≤ length u.old) × (part.cols * 64 ≤ length t.now) }
+    requires terms_nonzero { (0 < n) × (n ≤ 64) × Indices false term n }
+    requires by_index { (i q : ℕ) → i < part.n → q < n → index_of a.form a.ld i (along false term q) < length a.cells.now }
+    ensures { (c.new ≡ update (part_of part (half_packed n t.now (λ i q. matrix_of a.entry i (along false term q)))) c.old) × (length u.new ≡ length u.old) }
 {
-    let end = from + cols;
-    let top = arrays::pick(lower, end, 0);
-    let rows = arrays::pick(lower, n - end, from);
+    let end = part.from + part.cols;
+    let top = arrays::pick(part.lower, end, 0);
+    let rows = arrays::pick(part.lower, part.n - end, part.from);
     square(
-        lower,
-        &mut c[from..],
-        ld,
-        cols,
-        terms,
-        fa,
+        part.lower,
+        &mut c[part.from..],
+        part.ld,
+        part.cols,
+        n,
         a,
-        lda,
-        from,
-        l0,
+        part.from,
+        term,
         r,
         u,
         t,
     );
-    panels::sweep(
-        &mut c[top..],
-        ld,
+    let beside = Area {
+        ld: part.ld,
         rows,
-        cols,
-        terms,
-        fa,
-        a,
-        lda,
-        top,
-        l0,
-        false,
-        r,
-        u,
-        t,
-    );
+        cols: part.cols,
+    };
+    let terms = Run {
+        from: term,
+        down: false,
+    };
+    panels::sweep(&mut c[top..], beside, n, a, top, terms, r, u, t);
 }
 
 // The product by panels of r terms, with the buffers u and t.
-fn by_panels(
-    lower: bool,
-    c: &mut [f64],
-    ld: usize,
-    n: usize,
-    cols: usize,
-    from: usize,
-    k: usize,
-    fa: Form,
-    a: &[f64],
-    lda: usize,
-    fb: Form,
-    b: &[f64],
-    ldb: usize,
-    alpha: f64,
-    r: usize,
-    u: &mut [f64],
-    t: &mut [f64],
-)
-    requires n_le_ld { (n ≤ ld) × (cols * ld + n ≤ length c.old + ld) × (0 < cols) × (from + cols ≤ n) × (0 < r) × (r ≤ 64) × (4096 ≤ length u.old) × (cols * 64 ≤ length t.old) }
-    requires by_index { ((i l : ℕ) → i < n → l < k → index_of fa lda i l < length a.now) × ((l j : ℕ) → l < k → j < n → index_of fb ldb l j < length b.now) }
-    ensures { c.new ≡ update (entries ld (only (trapezoid lower from n cols) (product alpha (entry_of fa a.now lda) (from_column from (entry_of fb b.now ldb)) false k))) c.old }
+fn by_panels(c: &mut [f64], part: Part, p: Product, r: usize, u: &mut [f64], t: &mut [f64])
+    requires n_le_ld { (part.n ≤ part.ld) × (part.cols * part.ld + part.n ≤ length c.old + part.ld) × (0 < part.cols) × (part.from + part.cols ≤ part.n) × (0 < r) × (r ≤ 64) × (4096 ≤ length u.old) × (part.cols * 64 ≤ length t.old) }
+    requires by_index { Reads p part.n }
+    ensures { c.new ≡ update (part_of part (product_of part.from p.entry)) c.old }
 {
-    let mut l = 0;
-    while l < k {
-        let q = arrays::smaller(r, k - l);
-        pack::pack(t, q, cols, fb, b, ldb, l, false, from, false);
-        pass::scale(t, 64, q, cols, alpha);
-        panel(lower, c, ld, n, cols, from, q, fa, a, lda, l, r, u, t);
-        l += q;
+    for (l, n) in Pieces::of(p.terms, r) {
+        let terms = Run {
+            from: l,
+            down: false,
+        };
+        let cols = Run {
+            from: part.from,
+            down: false,
+        };
+        pack::pack(t, n, part.cols, p.right, terms, cols);
+        let packed = Area {
+            ld: 64,
+            rows: n,
+            cols: part.cols,
+        };
+        pass::scale(t, packed, p.alpha);
+        panel(c, part, n, p.left, l, r, u, t);
     }
 }
 
-// The same with buffers of its own, for at most 64 columns,
-fn blocked(
-    lower: bool,
-    c: &mut [f64],
-    ld: usize,
-    n: usize,
-    cols: usize,
-    from: usize,
-    k: usize,
-    fa: Form,
-    a: &[f64],
-    lda: usize,
-    fb: Form,
-    b: &[f64],
-    ldb: usize,
-    alpha: f64,
-    r: usize,
-)
-    requires n_le_ld { (n ≤ ld) × (cols * ld + n ≤ length c.old + ld) × (0 < cols) × (from + cols ≤ n) × (0 < r) × (r ≤ 64) × (cols ≤ 64) }
-    requires by_index { ((i l : ℕ) → i < n → l < k → index_of fa lda i l < length a.now) × ((l j : ℕ) → l < k → j < n → index_of fb ldb l j < length b.now) }
-    ensures { c.new ≡ update (entries ld (only (trapezoid lower from n cols) (product alpha (entry_of fa a.now lda) (from_column from (entry_of fb b.now ldb)) false k))) c.old }
+// The same with buffers of its own, of which that of the right factor has N elements: 64 for each column.
+fn buffered<const N: usize>(c: &mut [f64], part: Part, p: Product, r: usize)
+    requires n_le_ld { (part.n ≤ part.ld) × (part.cols * part.ld + part.n ≤ length c.old + part.ld) × (0 < part.cols) × (part.from + part.cols ≤ part.n) × (0 < r) × (r ≤ 64) × (part.cols * 64 ≤ N) × (N ≤ 16384) }
+    requires by_index { Reads p part.n }
+    ensures { c.new ≡ update (part_of part (product_of part.from p.entry)) c.old }
 {
     let mut u = [0.0f64; 4096];
-    let mut t = [0.0f64; 4096];
-    by_panels(
-        lower, c, ld, n, cols, from, k, fa, a, lda, fb, b, ldb, alpha, r, &mut u, &mut t,
-    );
-}
-
-// and for at most 256, so that each block of rows is packed once for all of them.
-fn wide(
-    lower: bool,
-    c: &mut [f64],
-    ld: usize,
-    n: usize,
-    cols: usize,
-    from: usize,
-    k: usize,
-    fa: Form,
-    a: &[f64],
-    lda: usize,
-    fb: Form,
-    b: &[f64],
-    ldb: usize,
-    alpha: f64,
-    r: usize,
-)
-    requires n_le_ld { (n ≤ ld) × (cols * ld + n ≤ length c.old + ld) × (0 < cols) × (from + cols ≤ n) × (0 < r) × (r ≤ 64) × (cols ≤ 256) }
-    requires by_index { ((i l : ℕ) → i < n → l < k → index_of fa lda i l < length a.now) × ((l j : ℕ) → l < k → j < n → index_of fb ldb l j < length b.now) }
-    ensures { c.new ≡ update (entries ld (only (trapezoid lower from n cols) (product alpha (entry_of fa a.now lda) (from_column from (entry_of fb b.now ldb)) false k))) c.old }
-{
-    let mut u = [0.0f64; 4096];
-    let mut t = [0.0f64; 16384];
-    by_panels(
-        lower, c, ld, n, cols, from, k, fa, a, lda, fb, b, ldb, alpha, r, &mut u, &mut t,
-    );
+    let mut t = [0.0f64; N];
+    by_panels(c, part, p, r, &mut u, &mut t);
 }
 
 // The same where the square on the diagonal is tiny: it goes straight from the arrays, and what lies beside it is a product of the kernel.
-fn tiny(
-    lower: bool,
-    c: &mut [f64],
-    ld: usize,
-    n: usize,
-    cols: usize,
-    from: usize,
-    k: usize,
-    fa: Form,
-    a: &[f64],
-    lda: usize,
-    fb: Form,
-    b: &[f64],
-    ldb: usize,
-    alpha: f64,
-    r: usize,
-)
-    requires n_le_ld { (n ≤ ld) × (cols * ld + n ≤ length c.old + ld) × (0 < cols) × (from + cols ≤ n) × (0 < r) × (r ≤ 64) × (cols ≤ 256) × (is_mirrored fa ≡ false) × (is_mirrored fb ≡ false) }
-    requires by_index { ((i l : ℕ) → i < n → l < k → index_of fa lda i l < length a.now) × ((l j : ℕ) → l < k → j < n → index_of fb ldb l j < length b.now) }
-    ensures { c.new ≡ update (entries ld (only (trapezoid lower from n cols) (product alpha (entry_of fa a.now lda) (from_column from (entry_of fb b.now ldb)) false k))) c.old }
+fn tiny(c: &mut [f64], part: Part, p: Product, r: usize)
+    requires n_le_ld { (part.n ≤ part.ld) × (part.cols * part.ld + part.n ≤ length c.old + part.ld) × (0 < part.cols) × (part.from + part.cols ≤ part.n) × (0 < r) × (r ≤ 64) × (part.cols ≤ 256) × (is_mirrored p.left.form ≡ false) × (is_mirrored p.right.form ≡ false) }
+    requires by_index { Reads p part.n }
+    ensures { c.new ≡ update (part_of part (product_of part.from p.entry)) c.old }
 {
-    let end = from + cols;
-    let top = arrays::pick(lower, end, 0);
-    let rows = arrays::pick(lower, n - end, from);
+    let end = part.from + part.cols;
+    let top = arrays::pick(part.lower, end, 0);
+    let rows = arrays::pick(part.lower, part.n - end, part.from);
     direct::triangle(
-        lower,
-        &mut c[from..],
-        ld,
-        cols,
-        k,
-        fa,
-        a,
-        lda,
-        from,
-        fb,
-        b,
-        ldb,
-        from,
-        alpha,
+        part.lower,
+        &mut c[part.from..],
+        part.ld,
+        part.cols,
+        p,
+        part.from,
+        part.from,
     );
     if rows == 0 {
         return;
     }
-    kernel::multiply(
-        &mut c[top..],
-        ld,
+    let beside = Area {
+        ld: part.ld,
         rows,
-        cols,
-        k,
-        fa,
-        a,
-        lda,
-        top,
-        fb,
-        b,
-        ldb,
-        from,
-        alpha,
-        false,
-        r,
-    );
+        cols: part.cols,
+    };
+    kernel::multiply(&mut c[top..], beside, p, top, part.from, false, r);
 }
 
-// The general multiply in the columns from `from` on, `cols` of them, of one triangle of order n, diagonal included: c starts with the first of them. Added is alpha times the
-// left factor times the right one, in all k terms. The other entries are kept.
-pub fn trapezoid(
-    lower: bool,
-    c: &mut [f64],
-    ld: usize,
-    n: usize,
-    cols: usize,
-    from: usize,
-    k: usize,
-    fa: Form,
-    a: &[f64],
-    lda: usize,
-    fb: Form,
-    b: &[f64],
-    ldb: usize,
-    alpha: f64,
-    r: usize,
-)
-    requires n_le_ld { (n ≤ ld) × (cols * ld + n ≤ length c.old + ld) × (0 < cols) × (from + cols ≤ n) × (0 < r) × (r ≤ 64) × (cols ≤ 256) }
-    requires by_index { ((i l : ℕ) → i < n → l < k → index_of fa lda i l < length a.now) × ((l j : ℕ) → l < k → j < n → index_of fb ldb l j < length b.now) }
-    ensures { c.new ≡ update (entries ld (only (trapezoid lower from n cols) (product alpha (entry_of fa a.now lda) (from_column from (entry_of fb b.now ldb)) false k))) c.old }
+// The general multiply in some columns of one triangle, diagonal included: alpha times the left factor times the right one is added, in all terms. The other entries are kept.
+pub fn trapezoid(c: &mut [f64], part: Part, p: Product, r: usize)
+    requires n_le_ld { (part.n ≤ part.ld) × (part.cols * part.ld + part.n ≤ length c.old + part.ld) × (0 < part.cols) × (part.from + part.cols ≤ part.n) × (0 < r) × (r ≤ 64) × (part.cols ≤ 256) }
+    requires by_index { Reads p part.n }
+    ensures { c.new ≡ update (part_of part (product_of part.from p.entry)) c.old }
 {
-    if direct::is_tiny_triangle(fa, fb, cols, k) {
-        tiny(
-            lower, c, ld, n, cols, from, k, fa, a, lda, fb, b, ldb, alpha, r,
-        );
+    if direct::is_tiny_triangle(p.left.form, p.right.form, part.cols, p.terms) {
+        tiny(c, part, p, r);
         return;
     }
-    if cols <= 64 {
-        blocked(
-            lower, c, ld, n, cols, from, k, fa, a, lda, fb, b, ldb, alpha, r,
-        );
+    // For more than 64 columns a longer buffer, so that each block of rows is packed once for all of them.
+    if part.cols <= 64 {
+        buffered::<4096>(c, part, p, r);
         return;
     }
-    wide(
-        lower, c, ld, n, cols, from, k, fa, a, lda, fb, b, ldb, alpha, r,
-    );
+    buffered::<16384>(c, part, p, r);
 }

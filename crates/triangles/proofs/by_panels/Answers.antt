@@ -1,8 +1,9 @@
--- `triangles::by_panels` meets its contract: the terms below l are done.
+-- `triangles::by_panels` meets its contract: the terms before the next piece are done.
 use Prim.Native.Nat.{ℕ, ◌≤◌, ◌<◌, ◌+◌, ◌*◌}
-use mathlib.Core.Path.{◌≡◌, refl, sym, ap, ◌∙◌}
+use mathlib.Core.Path.{refl, sym, ap, ◌∙◌}
 use native.Mathlib.Omega.{arith}
 use lib.ListN.{length}
+use Rattle.arrays.proofs.PieceLaws.{turn, last}
 use Rattle.arrays.proofs.UpdateLaws.{length-update}
 use Rattle.packing.proofs.FactorLaws.{upward, along-up, turn_up}
 use Rattle.direct.specs.Product.{product}
@@ -10,10 +11,10 @@ use Rattle.direct.proofs.DirectLaws.{masked-none}
 use Rattle.kernel.proofs.PanelLaws.{masked-next}
 use Rattle.arrays.proofs.TrapezoidLaws.{within}
 use Rattle.triangles.proofs.by_panels.Goals as goal
-use Rattle.triangles.proofs.by_panels.Goals.{After-smaller-q}
+use Rattle.triangles.proofs.by_panels.Goals.{In-Some}
 
 -- in a turn: q terms from the l-th on
-record Turn (l q k from cols n ld lc lu lt : ℕ) : Type 0 where
+record Terms (l q k from cols n ld lc lu lt : ℕ) : Type 0 where
   some : 0 < q
   few : q ≤ 64
   within-k : l + q ≤ k
@@ -26,10 +27,11 @@ record Turn (l q k from cols n ld lc lu lt : ℕ) : Type 0 where
   buffer-u : 4096 ≤ lu
   buffer-t : cols * 64 ≤ lt
 
-turn : (c : After-smaller-q) → Turn c.loop-l.l c.smaller-q.result c.args.k c.args.from c.args.cols c.args.n c.args.ld (length c.loop-l.c) (length c.loop-l.u) (length c.loop-l.t)
-turn c =
+terms : (c : In-Some) → Terms c.in-Some.l c.in-Some.n c.args.p.terms c.args.part.from c.args.part.cols c.args.part.n c.args.part.ld (length c.loop-l.c) (length c.loop-l.u) (length c.loop-l.t)
+terms c =
+    let t = turn c.next.ensures.steps c.in-Some.is in
     record {
-      some = c.smaller-q.ensures.2 (omega arith) (omega arith);
+      some = omega arith;
       few = omega arith;
       within-k = omega arith;
       machine = omega arith;
@@ -43,25 +45,25 @@ turn c =
     }
 
 pub loop-l-init : goal.loop-l-init
-loop-l-init c = (omega arith, refl, refl, refl, masked-none _ _ _ _ _ _ _ _)
+loop-l-init c = rw c.into_iter-l-iterator.ensures.into_iter_gives (omega arith, tt, c.of-l-items.ensures.1, c.of-l-items.ensures.2, rw c.of-l-items.ensures.0 (masked-none _ _ _ _ _ _ _ _))
 
 pub pack-requires : goal.pack-requires
 pack-requires c =
-    let n = turn (goal.at.pack-requires c).After-smaller-q in
-    let l = c.loop-l.l in (
+    let n = terms (goal.at.pack-requires c).In-Some in
+    let l = c.in-Some.l in (
       omega (arith, n),
       omega (arith, n),
       omega (arith, n),
       omega (arith, n),
       upward _ _ (omega (arith, n)),
       upward _ _ (omega (arith, n)),
-      λ y x hy hx. rw (along-up l y refl, along-up c.args.from x refl) (c.requires.by_index.1 (l + y) (c.args.from + x) (omega (arith, n)) (omega (arith, n))),
+      λ y x hy hx. rw (along-up l y refl, along-up c.args.part.from x refl) (c.requires.by_index.1 (l + y) (c.args.part.from + x) (omega (arith, n)) (omega (arith, n))),
     )
 
 pub panel-requires : goal.panel-requires
 panel-requires c =
-    let n = turn (goal.at.panel-requires c).After-smaller-q in
-    let l = c.loop-l.l in
+    let n = terms (goal.at.panel-requires c).In-Some in
+    let l = c.in-Some.l in
     let e = ap length c.scale.ensures ∙ length-update _ _ ∙ ap length c.pack.ensures ∙ length-update _ _ in record {
       n_le_ld = omega (arith, n, e);
       terms_nonzero = (omega (arith, n), omega (arith, n), upward _ _ (omega (arith, n)));
@@ -70,16 +72,17 @@ panel-requires c =
 
 pub loop-l-preserved : goal.loop-l-preserved
 loop-l-preserved c =
-    let n = turn (goal.at.loop-l-preserved c).After-smaller-q in
-    let v = c.loop-l.invariant in
-    let p = c.pack.ensures in
-    let s = c.scale.ensures in
-    let g = c.panel.ensures in
-    let e =
-    masked-next _ _ (λ i j h. (within _ _ _ i j _ h).column) _ _ _ _ _ _ _ _ _ _ _ _ _ _ _ _ _ _ (omega (arith, n)) (omega (arith, n)) (omega (arith, n)) (sym (turn_up _ _ refl))
-    v.4 p s g.0 in
-    (omega (arith, n), ap length e ∙ length-update _ _, g.1 ∙ v.2, ap length s ∙ length-update _ _ ∙ ap length p ∙ length-update _ _ ∙ v.3, e)
+    let t = turn c.next.ensures.steps c.in-Some.is in
+    let n = terms (goal.at.loop-l-preserved c).In-Some in (
+      omega arith,
+      tt,
+      omega arith,
+      omega arith,
+      rw t.next
+          (masked-next _ _ (λ i j h. (within _ _ _ i j _ h).column) _ _ _ _ _ _ _ _ _ _ _ _ _ _ _ _ _ _ (omega (arith, n)) (omega (arith, n)) (omega (arith, n)) (sym (turn_up _ _ refl))
+          (rw (sym t.first) at c.loop-l.invariant.4) c.pack.ensures c.scale.ensures c.panel.ensures.0),
+    )
 
 pub returns : goal.returns
 unfolding product
-returns c = let e : c.loop-l.l ≡ c.args.k = omega arith in rw e at c.loop-l.invariant.4
+returns c = let all = last c.next.ensures.steps c.in-None.is ∙ c.loop-l.invariant.2 in rw all at c.loop-l.invariant.4

@@ -22,11 +22,11 @@ record Parts (from cols top rows n ld lc : ℕ) : Type 0 where
   room : cols * ld + n ≤ lc + ld
   column : 0 * ld + ld ≤ cols * ld
 
-parts : (c : After-pick-rows) → Parts c.args.from c.args.cols c.pick-top.result c.pick-rows.result c.args.n c.args.ld (length c.args.c.now)
+parts : (c : After-pick-rows) → Parts c.args.part.from c.args.part.cols c.pick-top.result c.pick-rows.result c.args.part.n c.args.part.ld (length c.args.c.now)
 parts c =
     let a = c.args in
     record {
-      rest = rest-fits a.n a.from a.cols _ _ (omega arith) a.lower c.pick-top.ensures c.pick-rows.ensures;
+      rest = rest-fits a.part.n a.part.from a.part.cols _ _ (omega arith) a.part.lower c.pick-top.ensures c.pick-rows.ensures;
       within = omega arith;
       leading = omega arith;
       some = omega arith;

@@ -22,10 +22,10 @@ record Parts (g h top rows n ld lc : ℕ) : Type 0 where
   room : h * ld + n ≤ lc + ld
   column : 0 * ld + ld ≤ h * ld
 
-parts : (c : After-pick-rows) → Parts c.args.from c.args.cols c.pick-top.result c.pick-rows.result c.args.n c.args.ld (length c.args.c.now)
+parts : (c : After-pick-rows) → Parts c.args.part.from c.args.part.cols c.pick-top.result c.pick-rows.result c.args.part.n c.args.part.ld (length c.args.c.now)
 parts c =
     record {
-      rest = rest-fits c.args.n c.args.from c.args.cols _ _ (omega arith) c.args.lower c.pick-top.ensures c.pick-rows.ensures;
+      rest = rest-fits c.args.part.n c.args.part.from c.args.part.cols _ _ (omega arith) c.args.part.lower c.pick-top.ensures c.pick-rows.ensures;
       within = omega arith;
       leading = omega arith;
       some = omega arith;
@@ -42,10 +42,10 @@ at_rows alpha L R k i₀ g i j x = refl
 pub returns-then-rows-eq0 : goal.returns-then-rows-eq0
 returns-then-rows-eq0 c =
     let p = parts (goal.at.returns-then-rows-eq0 c).After-pick-rows in
-    diagonal-alone _ _ _ _ _ (omega (arith, p)) nan _ _ _ _ _ _ c.pick-top.ensures c.pick-rows.ensures (omega (arith, p)) (omega (arith, p)) (omega (arith, p)) c.triangle.ensures (at_rows _ (entry_of c.args.fa c.args.a.now c.args.lda) (entry_of c.args.fb c.args.b.now c.args.ldb) _ _ _) c.if-rows-eq0.true
+    diagonal-alone _ _ _ _ _ (omega (arith, p)) nan _ _ _ _ _ _ c.pick-top.ensures c.pick-rows.ensures (omega (arith, p)) (omega (arith, p)) (omega (arith, p)) c.triangle.ensures (at_rows _ (entry_of c.args.p.left.form c.args.p.left.cells.now c.args.p.left.ld) (entry_of c.args.p.right.form c.args.p.right.cells.now c.args.p.right.ld) _ _ _) c.if-rows-eq0.true
 
 pub returns : goal.returns
 returns c =
     let p = parts (goal.at.returns c).After-pick-rows in
-    diagonal-and-rest _ _ _ _ _ (omega (arith, p)) nan _ _ _ _ _ _ c.pick-top.ensures c.pick-rows.ensures (omega (arith, p)) (omega (arith, p)) (omega (arith, p)) c.triangle.ensures (at_rows _ (entry_of c.args.fa c.args.a.now c.args.lda) (entry_of c.args.fb c.args.b.now c.args.ldb) _ _ _)
-    _ _ _ refl c.multiply.ensures (at_rows _ (entry_of c.args.fa c.args.a.now c.args.lda) (entry_of c.args.fb c.args.b.now c.args.ldb) _ _ _)
+    diagonal-and-rest _ _ _ _ _ (omega (arith, p)) nan _ _ _ _ _ _ c.pick-top.ensures c.pick-rows.ensures (omega (arith, p)) (omega (arith, p)) (omega (arith, p)) c.triangle.ensures (at_rows _ (entry_of c.args.p.left.form c.args.p.left.cells.now c.args.p.left.ld) (entry_of c.args.p.right.form c.args.p.right.cells.now c.args.p.right.ld) _ _ _)
+    _ _ _ refl c.multiply.ensures (at_rows _ (entry_of c.args.p.left.form c.args.p.left.cells.now c.args.p.left.ld) (entry_of c.args.p.right.form c.args.p.right.cells.now c.args.p.right.ld) _ _ _)
