@@ -7,58 +7,43 @@ ghost use Rattle.definitions.specs.Number.{is_zero};
 ghost use Rattle.definitions.specs.Element.{StripOf};
 ghost use Rattle.definitions.specs.declared.Routine.TheVariants.{Gemm, Symm};
 ghost use Rattle.definitions.proofs.Fits.{Fits};
-ghost use Rattle.packing.specs.Factor.{index_of, entry_of};
+ghost use Rattle.packing.specs.Factor.{index_of, matrix_of};
 ghost use Rattle.direct.specs.Product.{from_column};
 ghost use Rattle.gemm.specs.Sum.{summed};
 
+use arrays::Area;
 use definitions::{Call, Scalar, Side};
+use direct::Product;
 use packing::Form;
+use packing::factor::Factor;
 
-// The start in rows by cols entries of c, and unless alpha is zero all k terms of alpha times the left factor times the right one, whose columns are
-// those from `from` on.
+// The start in an area of c, and unless alpha is zero all k terms of alpha times the left factor times the right one, whose columns are those from `from` on.
 fn accumulate(
     alpha: Scalar,
     beta: Scalar,
     c: &mut [f64],
-    ld: usize,
-    rows: usize,
-    cols: usize,
+    area: Area,
+    left: Factor,
+    right: Factor,
     k: usize,
-    fa: Form,
-    a: &[f64],
-    lda: usize,
-    fb: Form,
-    b: &[f64],
-    ldb: usize,
     from: usize,
     r: usize,
 )
-    requires rows_nonzero { (0 < rows) × (rows ≤ ld) × (cols * ld + rows ≤ length c.old + ld) × (0 < cols) × (cols ≤ 256) × (0 < r) × (r ≤ 64) × (from + cols < 18446744073709551616) }
-    requires l_in_bounds { (is_zero alpha ≡ false → (i l : ℕ) → i < rows → l < k → index_of fa lda i l < length a.now) × (is_zero alpha ≡ false → (l j : ℕ) → l < k → j < cols → index_of fb ldb l (from + j) < length b.now) }
-    ensures { c.new ≡ update (region ld rows cols (summed alpha beta (entry_of fa a.now lda) (from_column from (entry_of fb b.now ldb)) k)) c.old }
+    requires rows_nonzero { (0 < area.rows) × (area.rows ≤ area.ld) × (area.cols * area.ld + area.rows ≤ length c.old + area.ld) × (0 < area.cols) × (area.cols ≤ 256) × (0 < r) × (r ≤ 64) × (from + area.cols < 18446744073709551616) }
+    requires l_in_bounds { (is_zero alpha ≡ false → (i l : ℕ) → i < area.rows → l < k → index_of left.form left.ld i l < length left.cells.now) × (is_zero alpha ≡ false → (l j : ℕ) → l < k → j < area.cols → index_of right.form right.ld l (from + j) < length right.cells.now) }
+    ensures { c.new ≡ update (region area.ld area.rows area.cols (summed alpha beta (matrix_of left.entry) (from_column from (matrix_of right.entry)) k)) c.old }
 {
-    start::region(c, ld, rows, cols, beta);
+    start::region(c, area, beta);
     if alpha.is_zero() {
         return;
     }
-    kernel::multiply(
-        c,
-        ld,
-        rows,
-        cols,
-        k,
-        fa,
-        a,
-        lda,
-        0,
-        fb,
-        b,
-        ldb,
-        from,
-        alpha.factor(),
-        false,
-        r,
-    );
+    let p = Product {
+        left,
+        right,
+        terms: k,
+        alpha: alpha.factor(),
+    };
+    kernel::multiply(c, area, p, 0, from, false, r);
 }
 
 // GEMM's strip of `cols` columns from column `from` on: c is the part of C that starts there, and blocks are of r rows and r terms.
@@ -75,20 +60,25 @@ pub fn gemm_strip(
     requires cols_nonzero { (0 < cols) × (cols ≤ 256) × (from + cols ≤ call.n) × (0 < r) × (r ≤ 64) }
     ensures { StripOf call a.now b.now from (from + cols) (from * call.ldc) c.old c.new }
 {
-    let transa = call.transa;
-    let transb = call.transb;
-    let fa = forms::op_form(transa);
-    let fb = forms::op_form(transb);
-    let m = call.m as usize;
+    let fa = forms::op_form(call.transa);
+    let fb = forms::op_form(call.transb);
+    let area = Area {
+        ld: call.ldc as usize,
+        rows: call.m as usize,
+        cols,
+    };
+    let left = Factor {
+        form: fa,
+        cells: a,
+        ld: call.lda as usize,
+    };
+    let right = Factor {
+        form: fb,
+        cells: b,
+        ld: call.ldb as usize,
+    };
     let k = call.k as usize;
-    let lda = call.lda as usize;
-    let ldb = call.ldb as usize;
-    let ldc = call.ldc as usize;
-    let alpha = call.alpha;
-    let beta = call.beta;
-    accumulate(
-        alpha, beta, c, ldc, m, cols, k, fa, a, lda, fb, b, ldb, from, r,
-    );
+    accumulate(call.alpha, call.beta, c, area, left, right, k, from, r);
 }
 
 // SYMM's: the symmetric A is the left factor for side L and the right one for side R.
@@ -105,50 +95,28 @@ pub fn symm_strip(
     requires cols_nonzero { (0 < cols) × (cols ≤ 256) × (from + cols ≤ call.n) × (0 < r) × (r ≤ 64) }
     ensures { StripOf call a.now b.now from (from + cols) (from * call.ldc) c.old c.new }
 {
-    let uplo = call.uplo;
-    let f = forms::mirrored_form(uplo);
+    let f = forms::mirrored_form(call.uplo);
     let m = call.m as usize;
     let n = call.n as usize;
-    let lda = call.lda as usize;
-    let ldb = call.ldb as usize;
-    let ldc = call.ldc as usize;
+    let area = Area {
+        ld: call.ldc as usize,
+        rows: m,
+        cols,
+    };
+    let symmetric = Factor {
+        form: f,
+        cells: a,
+        ld: call.lda as usize,
+    };
+    let plain = Factor {
+        form: Form::Plain,
+        cells: b,
+        ld: call.ldb as usize,
+    };
     let alpha = call.alpha;
     let beta = call.beta;
-    let side = call.side;
-    match side {
-        Side::Left => accumulate(
-            alpha,
-            beta,
-            c,
-            ldc,
-            m,
-            cols,
-            m,
-            f,
-            a,
-            lda,
-            Form::Plain,
-            b,
-            ldb,
-            from,
-            r,
-        ),
-        Side::Right => accumulate(
-            alpha,
-            beta,
-            c,
-            ldc,
-            m,
-            cols,
-            n,
-            Form::Plain,
-            b,
-            ldb,
-            f,
-            a,
-            lda,
-            from,
-            r,
-        ),
+    match call.side {
+        Side::Left => accumulate(alpha, beta, c, area, symmetric, plain, m, from, r),
+        Side::Right => accumulate(alpha, beta, c, area, plain, symmetric, n, from, r),
     }
 }

@@ -7,10 +7,14 @@ ghost use Rattle.definitions.specs.Number.{start};
 ghost use Rattle.definitions.specs.Element.{StripOf};
 ghost use Rattle.definitions.specs.declared.Routine.TheVariants.{Syrk, Syr2k};
 ghost use Rattle.definitions.proofs.Fits.{Fits};
+ghost use Rattle.triangles.specs.Part.{part_of};
 ghost use Rattle.rank_update.specs.Options.{is_lower, transposed_form};
 
 use definitions::{Call, Scalar, Transpose, Triangle};
+use direct::Product;
 use packing::Form;
+use packing::factor::Factor;
+use triangles::Part;
 
 fn is_lower(t: Triangle) -> bool
     ensures { result ≡ is_lower t }
@@ -31,27 +35,17 @@ fn transposed_form(t: Transpose) -> Form
     }
 }
 
-// The start in the strip's part of the triangle: column g of C from the diagonal down, or from the top to the diagonal.
-fn start_triangle(
-    lower: bool,
-    c: &mut [f64],
-    ld: usize,
-    n: usize,
-    cols: usize,
-    from: usize,
-    beta: Scalar,
-)
-    requires { (0 < n) × (n ≤ ld) × (cols * ld + n ≤ length c.old + ld) × (from + cols ≤ n) }
-    ensures { c.new ≡ update (entries ld (only (trapezoid lower from n cols) (λ i j x. start beta x))) c.old }
+// The start in some columns of a triangle: column g of C from the diagonal down, or from the top to the diagonal.
+fn start_part(c: &mut [f64], part: Part, beta: Scalar)
+    requires { (0 < part.n) × (part.n ≤ part.ld) × (part.cols * part.ld + part.n ≤ length c.old + part.ld) × (part.from + part.cols ≤ part.n) }
+    ensures { c.new ≡ update (part_of part (λ i j x. start beta x)) c.old }
 {
-    let mut j = 0;
-    while j < cols {
-        let g = from + j;
-        let top = arrays::pick(lower, g, 0);
-        let rows = arrays::pick(lower, n - g, g + 1);
-        let x = j * ld + top;
+    for j in 0..part.cols {
+        let g = part.from + j;
+        let top = arrays::pick(part.lower, g, 0);
+        let rows = arrays::pick(part.lower, part.n - g, g + 1);
+        let x = j * part.ld + top;
         start::column(&mut c[x..], rows, beta);
-        j += 1;
     }
 }
 
@@ -60,10 +54,14 @@ fn start_strip(call: Call, lower: bool, c: &mut [f64], from: usize, cols: usize)
     requires { (0 < call.n) × (call.n ≤ call.ldc) × (cols * call.ldc + call.n ≤ length c.old + call.ldc) × (from + cols ≤ call.n) }
     ensures { c.new ≡ update (entries call.ldc (only (trapezoid lower from call.n cols) (λ i j x. start call.beta x))) c.old }
 {
-    let n = call.n as usize;
-    let ldc = call.ldc as usize;
-    let beta = call.beta;
-    start_triangle(lower, c, ldc, n, cols, from, beta);
+    let part = Part {
+        lower,
+        ld: call.ldc as usize,
+        n: call.n as usize,
+        from,
+        cols,
+    };
+    start_part(c, part, call.beta);
 }
 
 // SYRK's strip of `cols` columns from column `from` on: c is the part of C that starts there, and blocks are of r rows, columns and terms.
@@ -80,22 +78,36 @@ pub fn syrk_strip(
     requires cols_nonzero { (0 < cols) × (cols ≤ 256) × (from + cols ≤ call.n) × (0 < r) × (r ≤ 64) }
     ensures { StripOf call a.now b.now from (from + cols) (from * call.ldc) c.old c.new }
 {
-    let uplo = call.uplo;
-    let trans = call.transa;
-    let lower = is_lower(uplo);
-    let p = forms::op_form(trans);
-    let q = transposed_form(trans);
-    let n = call.n as usize;
-    let k = call.k as usize;
-    let lda = call.lda as usize;
-    let ldc = call.ldc as usize;
-    let alpha = call.alpha;
+    let lower = is_lower(call.uplo);
+    let p = forms::op_form(call.transa);
+    let q = transposed_form(call.transa);
     start_strip(call, lower, c, from, cols);
-    if alpha.is_zero() {
+    if call.alpha.is_zero() {
         return;
     }
-    let f = alpha.factor();
-    triangles::trapezoid(lower, c, ldc, n, cols, from, k, p, a, lda, q, a, lda, f, r);
+    let part = Part {
+        lower,
+        ld: call.ldc as usize,
+        n: call.n as usize,
+        from,
+        cols,
+    };
+    let lda = call.lda as usize;
+    let product = Product {
+        left: Factor {
+            form: p,
+            cells: a,
+            ld: lda,
+        },
+        right: Factor {
+            form: q,
+            cells: a,
+            ld: lda,
+        },
+        terms: call.k as usize,
+        alpha: call.alpha.factor(),
+    };
+    triangles::trapezoid(c, part, product, r);
 }
 
 // SYR2K's: all terms of op(A) times the transpose of op(B), then all of op(B) times the transpose of op(A).
@@ -112,22 +124,52 @@ pub fn syr2k_strip(
     requires cols_nonzero { (0 < cols) × (cols ≤ 256) × (from + cols ≤ call.n) × (0 < r) × (r ≤ 64) }
     ensures { StripOf call a.now b.now from (from + cols) (from * call.ldc) c.old c.new }
 {
-    let uplo = call.uplo;
-    let trans = call.transa;
-    let lower = is_lower(uplo);
-    let p = forms::op_form(trans);
-    let q = transposed_form(trans);
-    let n = call.n as usize;
-    let k = call.k as usize;
-    let lda = call.lda as usize;
-    let ldb = call.ldb as usize;
-    let ldc = call.ldc as usize;
-    let alpha = call.alpha;
+    let lower = is_lower(call.uplo);
+    let p = forms::op_form(call.transa);
+    let q = transposed_form(call.transa);
     start_strip(call, lower, c, from, cols);
-    if alpha.is_zero() {
+    if call.alpha.is_zero() {
         return;
     }
-    let f = alpha.factor();
-    triangles::trapezoid(lower, c, ldc, n, cols, from, k, p, a, lda, q, b, ldb, f, r);
-    triangles::trapezoid(lower, c, ldc, n, cols, from, k, p, b, ldb, q, a, lda, f, r);
+    let part = Part {
+        lower,
+        ld: call.ldc as usize,
+        n: call.n as usize,
+        from,
+        cols,
+    };
+    let lda = call.lda as usize;
+    let ldb = call.ldb as usize;
+    let terms = call.k as usize;
+    let alpha = call.alpha.factor();
+    let ab = Product {
+        left: Factor {
+            form: p,
+            cells: a,
+            ld: lda,
+        },
+        right: Factor {
+            form: q,
+            cells: b,
+            ld: ldb,
+        },
+        terms,
+        alpha,
+    };
+    let ba = Product {
+        left: Factor {
+            form: p,
+            cells: b,
+            ld: ldb,
+        },
+        right: Factor {
+            form: q,
+            cells: a,
+            ld: lda,
+        },
+        terms,
+        alpha,
+    };
+    triangles::trapezoid(c, part, ab, r);
+    triangles::trapezoid(c, part, ba, r);
 }

@@ -5,6 +5,7 @@ ghost use Rattle.std.specs.Prelude.{◌≡◌, ◌+◌, ◌*◌, ◌≤◌, ◌<
 ghost use Rattle.arrays.specs.Update.{update, below, region};
 ghost use Rattle.definitions.specs.Number.{start};
 
+use arrays::Area;
 use definitions::Scalar;
 
 // The elements below n.
@@ -19,14 +20,14 @@ pub fn column(c: &mut [f64], n: usize, beta: Scalar)
     }
 }
 
-// The rows by cols entries of a matrix with leading dimension ld.
-pub fn region(c: &mut [f64], ld: usize, rows: usize, cols: usize, beta: Scalar)
-    requires { (0 < ld) × (rows ≤ ld) × (cols * ld + rows ≤ length c.old + ld) }
-    ensures { c.new ≡ update (region ld rows cols (λ i j x. start beta x)) c.old }
+// The entries of an area.
+pub fn region(c: &mut [f64], area: Area, beta: Scalar)
+    requires { (0 < area.ld) × (area.rows ≤ area.ld) × (area.cols * area.ld + area.rows ≤ length c.old + area.ld) }
+    ensures { c.new ≡ update (region area.ld area.rows area.cols (λ i j x. start beta x)) c.old }
 {
     match beta {
-        Scalar::Zero => blocks::pass::clear(c, ld, rows, cols),
+        Scalar::Zero => blocks::pass::clear(c, area),
         Scalar::One => {}
-        Scalar::Other(b) => blocks::pass::scale(c, ld, rows, cols, b),
+        Scalar::Other(b) => blocks::pass::scale(c, area, b),
     }
 }

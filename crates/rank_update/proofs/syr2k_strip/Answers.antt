@@ -48,7 +48,7 @@ trapezoid-requires c =
     let u = reads g _ _ _ _ c.op_form-p.ensures c.transposed_form-q.ensures z f.room-a in
     let w = reads g _ _ _ _ c.op_form-p.ensures c.transposed_form-q.ensures z f.room-b in record {
       n_le_ld = (f.ld-c, omega (arith, room (goal.at.trapezoid-requires c).After-slice_known-1, c.start_strip.auto), omega (arith, b), omega (arith, b), omega (arith, b), omega (arith, b), omega (arith, b));
-      by_index = (search (u.left, w.left), search (u.right, w.right));
+      by_index = (u.left, w.right);
     }
 
 pub trapezoid-requires-2 : goal.trapezoid-requires-2
@@ -61,7 +61,7 @@ trapezoid-requires-2 c =
     let u = reads g _ _ _ _ c.op_form-p.ensures c.transposed_form-q.ensures z f.room-a in
     let w = reads g _ _ _ _ c.op_form-p.ensures c.transposed_form-q.ensures z f.room-b in record {
       n_le_ld = (f.ld-c, omega (arith, room (goal.at.trapezoid-requires-2 c).After-slice_known-1, c.start_strip.auto, c.trapezoid.auto), omega (arith, b), omega (arith, b), omega (arith, b), omega (arith, b), omega (arith, b));
-      by_index = (search (u.left, w.left), search (u.right, w.right));
+      by_index = (w.left, u.right);
     }
 
 pub returns : goal.returns
@@ -74,6 +74,6 @@ returns c =
     (λ i j x. rw (c.op_form-p.ensures, c.transposed_form-q.ensures) (syr2k-value g _ _ i j x))
     f.some-columns f.ld-c (omega (arith, c.requires.cols_nonzero)) _ _
     (all-added g _ _ _ (omega (arith, f.some-columns, f.ld-c)) _ _ _ (sym c.is_zero.ensures ∙ c.if-is_zero.false)
-    (product-added g _ _ _ (omega (arith, f.some-columns, f.ld-c)) _ (entry_of c.op_form-p.result c.args.a.now c.args.call.lda times entry_of c.transposed_form-q.result c.args.b.now c.args.call.ldb ∷ []) _ _ _ _ _ c.factor-f.ensures
-    (product-added g _ _ _ (omega (arith, f.some-columns, f.ld-c)) _ [] _ _ _ _ _ c.factor-f.ensures (none-added g _ _ _ (omega (arith, f.some-columns, f.ld-c)) _ _ c.start_strip.ensures) c.trapezoid.ensures)
+    (product-added g _ _ _ (omega (arith, f.some-columns, f.ld-c)) _ (entry_of c.op_form-p.result c.args.a.now c.args.call.lda times entry_of c.transposed_form-q.result c.args.b.now c.args.call.ldb ∷ []) _ _ _ _ _ c.factor-alpha.ensures
+    (product-added g _ _ _ (omega (arith, f.some-columns, f.ld-c)) _ [] _ _ _ _ _ c.factor-alpha.ensures (none-added g _ _ _ (omega (arith, f.some-columns, f.ld-c)) _ _ c.start_strip.ensures) c.trapezoid.ensures)
     c.trapezoid-2.ensures))

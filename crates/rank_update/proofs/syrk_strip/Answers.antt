@@ -60,4 +60,4 @@ returns c =
     (λ i j x. rw (c.op_form-p.ensures, c.transposed_form-q.ensures) (syrk-value g _ _ i j x))
     f.some-columns f.ld-c (omega (arith, c.requires.cols_nonzero)) _ _
     (all-added g _ _ _ (omega (arith, f.some-columns, f.ld-c)) _ _ _ (sym c.is_zero.ensures ∙ c.if-is_zero.false)
-    (product-added g _ _ _ (omega (arith, f.some-columns, f.ld-c)) _ [] _ _ _ _ _ c.factor-f.ensures (none-added g _ _ _ (omega (arith, f.some-columns, f.ld-c)) _ _ c.start_strip.ensures) c.trapezoid.ensures))
+    (product-added g _ _ _ (omega (arith, f.some-columns, f.ld-c)) _ [] _ _ _ _ _ c.factor.ensures (none-added g _ _ _ (omega (arith, f.some-columns, f.ld-c)) _ _ c.start_strip.ensures) c.trapezoid.ensures))

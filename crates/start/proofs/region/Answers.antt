@@ -6,10 +6,10 @@ use Rattle.start.proofs.Cases.{cleared, kept, scaled}
 use Rattle.start.proofs.region.Goals as goal
 
 pub returns-in-Zero : goal.returns-in-Zero
-returns-in-Zero c = cleared (λ h. region c.args.ld c.args.rows c.args.cols (λ i j x. h x)) _ _ _ c.in-Zero.is c.clear.ensures
+returns-in-Zero c = cleared (λ h. region c.args.area.ld c.args.area.rows c.args.area.cols (λ i j x. h x)) _ _ _ c.in-Zero.is c.clear.ensures
 
 pub returns-in-One : goal.returns-in-One
-returns-in-One c = kept (λ h. region c.args.ld c.args.rows c.args.cols (λ i j x. h x)) _ _ _ c.in-One.is (region-keep _ _ _ _ _ (λ i j r c x. refl))
+returns-in-One c = kept (λ h. region c.args.area.ld c.args.area.rows c.args.area.cols (λ i j x. h x)) _ _ _ c.in-One.is (region-keep _ _ _ _ _ (λ i j r c x. refl))
 
 pub returns-in-Other : goal.returns-in-Other
-returns-in-Other c = scaled (λ h. region c.args.ld c.args.rows c.args.cols (λ i j x. h x)) _ _ _ _ c.in-Other.is c.scale.ensures
+returns-in-Other c = scaled (λ h. region c.args.area.ld c.args.area.rows c.args.area.cols (λ i j x. h x)) _ _ _ _ c.in-Other.is c.scale.ensures
