@@ -15,9 +15,7 @@ room c =
 
 -- and within the array
 inside : (c : After-pick-count) → (c.args.x0 + c.loop-k.k) * c.args.lda + (c.args.x0 + (c.pick-lo.result + c.pick-count.result)) ≤ length c.args.a.now
-inside c =
-    let room : c.pick-lo.result + c.pick-count.result ≤ c.args.n = run_room c.args.after c.args.n c.loop-k.k _ _ c.pick-lo.ensures c.pick-count.ensures (omega arith) in
-    omega (arith, room, c.requires.3 c.loop-k.k (c.args.n - 1) (omega arith) (omega arith))
+inside c = omega (arith, room c, c.requires.3 c.loop-k.k (c.args.n - 1) (omega arith) (omega arith))
 
 pub in_column-requires : goal.in_column-requires
 in_column-requires c = simp tail-length (omega (arith, room (goal.at.in_column-requires c).After-pick-count, inside (goal.at.in_column-requires c).After-pick-count, c.turn_of-q.ensures.1))
