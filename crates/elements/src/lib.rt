@@ -11,7 +11,7 @@ ghost use Rattle.elements.specs.Sums.{term_of, begun, finished, Summed};
 
 use forms::Op;
 use lines::{Grid, triangle};
-use packing::factor;
+use packing::factor::Run;
 
 // What the sum of an element starts with: the element's old value, +0.0, or +0.0 and then the element's own term, whose coefficient is handed over.
 #[derive(Clone, Copy)]
@@ -81,7 +81,7 @@ impl Formula {
     }
 }
 
-// The terms of `count` elements, from `from` on up or down, in the sums of four lines. In b lines are `across` elements apart and the elements of a line `step`; the
+// The terms of `count` elements, those of a run, in the sums of four lines. In b lines are `across` elements apart and the elements of a line `step`; the
 // coefficients are sa apart.
 fn terms(
     left: bool,
@@ -92,22 +92,21 @@ fn terms(
     step: usize,
     a: &[f64],
     sa: usize,
-    down: bool,
-    from: usize,
+    run: Run,
     count: usize,
 ) -> Lanes
-    requires { Indices down from count × ((k : ℕ) → k < count → (along down from k * sa < length a.now) × (along down from k * step + 3 * across < length b.now)) }
-    ensures { (result.e ≡ fold (λ e k. term_of left alpha (at a.now (along down from k * sa)) e (at b.now (along down from k * step))) count s.e)
-        × (result.f ≡ fold (λ e k. term_of left alpha (at a.now (along down from k * sa)) e (at b.now (along down from k * step + across))) count s.f)
-        × (result.g ≡ fold (λ e k. term_of left alpha (at a.now (along down from k * sa)) e (at b.now (along down from k * step + 2 * across))) count s.g)
-        × (result.h ≡ fold (λ e k. term_of left alpha (at a.now (along down from k * sa)) e (at b.now (along down from k * step + 3 * across))) count s.h) }
+    requires { Indices run.down run.from count × ((k : ℕ) → k < count → (along run.down run.from k * sa < length a.now) × (along run.down run.from k * step + 3 * across < length b.now)) }
+    ensures { (result.e ≡ fold (λ e k. term_of left alpha (at a.now (along run.down run.from k * sa)) e (at b.now (along run.down run.from k * step))) count s.e)
+        × (result.f ≡ fold (λ e k. term_of left alpha (at a.now (along run.down run.from k * sa)) e (at b.now (along run.down run.from k * step + across))) count s.f)
+        × (result.g ≡ fold (λ e k. term_of left alpha (at a.now (along run.down run.from k * sa)) e (at b.now (along run.down run.from k * step + 2 * across))) count s.g)
+        × (result.h ≡ fold (λ e k. term_of left alpha (at a.now (along run.down run.from k * sa)) e (at b.now (along run.down run.from k * step + 3 * across))) count s.h) }
 {
     let mut e = s.e;
     let mut f = s.f;
     let mut g = s.g;
     let mut h = s.h;
     for k in 0..count {
-        let p = factor::step(down, from, k);
+        let p = run.index(k);
         let w = a[p * sa];
         let x = p * step;
         e = term(left, alpha, w, e, b[x]);
@@ -119,19 +118,9 @@ fn terms(
 }
 
 // Element i of four lines.
-fn four(
-    g: Grid,
-    f: Formula,
-    b: &mut [f64],
-    i: usize,
-    a: &[f64],
-    sa: usize,
-    down: bool,
-    from: usize,
-    count: usize,
-)
-    requires { Room g.left g.ld g.m 4 (length b.old) × (i < g.m) × Indices down from count × ((k : ℕ) → k < count → (along down from k < g.m) × (along down from k * sa < length a.now)) }
-    ensures { Summed g.left g.ld g.m 4 i f.alpha f.start f.end (λ k. at a.now (along down from k * sa)) (along down from) count b.old b.new }
+fn four(g: Grid, f: Formula, b: &mut [f64], i: usize, a: &[f64], sa: usize, run: Run, count: usize)
+    requires { Room g.left g.ld g.m 4 (length b.old) × (i < g.m) × Indices run.down run.from count × ((k : ℕ) → k < count → (along run.down run.from k < g.m) × (along run.down run.from k * sa < length a.now)) }
+    ensures { Summed g.left g.ld g.m 4 i f.alpha f.start f.end (λ k. at a.now (along run.down run.from k * sa)) (along run.down run.from) count b.old b.new }
 {
     let across = arrays::pick(g.left, g.ld, 1);
     let step = arrays::pick(g.left, 1, g.ld);
@@ -149,9 +138,7 @@ fn four(
         g: f.begin(g.left, bz),
         h: f.begin(g.left, bw),
     };
-    let r = terms(
-        g.left, f.alpha, s, b, across, step, a, sa, down, from, count,
-    );
+    let r = terms(g.left, f.alpha, s, b, across, step, a, sa, run, count);
     b[x] = f.finish(g.left, r.e, bx);
     b[y] = f.finish(g.left, r.f, by);
     b[z] = f.finish(g.left, r.g, bz);
@@ -166,19 +153,18 @@ fn single(
     i: usize,
     a: &[f64],
     sa: usize,
-    down: bool,
-    from: usize,
+    run: Run,
     count: usize,
 )
-    requires { Room g.left g.ld g.m 1 (length b.old) × (i < g.m) × Indices down from count × ((k : ℕ) → k < count → (along down from k < g.m) × (along down from k * sa < length a.now)) }
-    ensures { Summed g.left g.ld g.m 1 i f.alpha f.start f.end (λ k. at a.now (along down from k * sa)) (along down from) count b.old b.new }
+    requires { Room g.left g.ld g.m 1 (length b.old) × (i < g.m) × Indices run.down run.from count × ((k : ℕ) → k < count → (along run.down run.from k < g.m) × (along run.down run.from k * sa < length a.now)) }
+    ensures { Summed g.left g.ld g.m 1 i f.alpha f.start f.end (λ k. at a.now (along run.down run.from k * sa)) (along run.down run.from) count b.old b.new }
 {
     let step = arrays::pick(g.left, 1, g.ld);
     let x = i * step;
     let bx = b[x];
     let mut e = f.begin(g.left, bx);
     for k in 0..count {
-        let p = factor::step(down, from, k);
+        let p = run.index(k);
         e = term(g.left, f.alpha, a[p * sa], e, b[p * step]);
     }
     b[x] = f.finish(g.left, e, bx);
@@ -192,40 +178,29 @@ fn singles(
     i: usize,
     a: &[f64],
     sa: usize,
-    down: bool,
-    from: usize,
+    run: Run,
     count: usize,
 )
-    requires { Room g.left g.ld g.m g.lines (length b.old) × (i < g.m) × Indices down from count × ((k : ℕ) → k < count → (along down from k < g.m) × (along down from k * sa < length a.now)) }
-    ensures { Summed g.left g.ld g.m g.lines i f.alpha f.start f.end (λ k. at a.now (along down from k * sa)) (along down from) count b.old b.new }
+    requires { Room g.left g.ld g.m g.lines (length b.old) × (i < g.m) × Indices run.down run.from count × ((k : ℕ) → k < count → (along run.down run.from k < g.m) × (along run.down run.from k * sa < length a.now)) }
+    ensures { Summed g.left g.ld g.m g.lines i f.alpha f.start f.end (λ k. at a.now (along run.down run.from k * sa)) (along run.down run.from) count b.old b.new }
 {
     let across = arrays::pick(g.left, g.ld, 1);
     for l in 0..g.lines {
         let x = l * across;
-        single(g, f, &mut b[x..], i, a, sa, down, from, count);
+        single(g, f, &mut b[x..], i, a, sa, run, count);
     }
 }
 
 // Element i of each line, four lines at a time.
-fn fours(
-    g: Grid,
-    f: Formula,
-    b: &mut [f64],
-    i: usize,
-    a: &[f64],
-    sa: usize,
-    down: bool,
-    from: usize,
-    count: usize,
-)
-    requires { Room g.left g.ld g.m g.lines (length b.old) × (i < g.m) × Indices down from count × ((k : ℕ) → k < count → (along down from k < g.m) × (along down from k * sa < length a.now)) }
-    ensures { Summed g.left g.ld g.m g.lines i f.alpha f.start f.end (λ k. at a.now (along down from k * sa)) (along down from) count b.old b.new }
+fn fours(g: Grid, f: Formula, b: &mut [f64], i: usize, a: &[f64], sa: usize, run: Run, count: usize)
+    requires { Room g.left g.ld g.m g.lines (length b.old) × (i < g.m) × Indices run.down run.from count × ((k : ℕ) → k < count → (along run.down run.from k < g.m) × (along run.down run.from k * sa < length a.now)) }
+    ensures { Summed g.left g.ld g.m g.lines i f.alpha f.start f.end (λ k. at a.now (along run.down run.from k * sa)) (along run.down run.from) count b.old b.new }
 {
     let across = arrays::pick(g.left, g.ld, 1);
     let quads = g.lines / 4;
     for q in 0..quads {
         let x = 4 * q * across;
-        four(g, f, &mut b[x..], i, a, sa, down, from, count);
+        four(g, f, &mut b[x..], i, a, sa, run, count);
     }
     let l = 4 * quads;
     if l == g.lines {
@@ -236,27 +211,18 @@ fn fours(
         lines: g.lines - l,
         ..g
     };
-    singles(rest, f, &mut b[y..], i, a, sa, down, from, count);
+    singles(rest, f, &mut b[y..], i, a, sa, run, count);
 }
 
-// Element i of each line becomes its sum. The terms are those of `count` elements of its line, from `from` on up or down, with op(A) as on the line's side.
-pub fn element(
-    g: Grid,
-    f: Formula,
-    b: &mut [f64],
-    i: usize,
-    a: Op,
-    down: bool,
-    from: usize,
-    count: usize,
-)
-    requires room { Room g.left g.ld g.m g.lines (length b.old) × (i < g.m) × Indices down from count × ((k : ℕ) → k < count → along down from k < g.m) }
+// Element i of each line becomes its sum. The terms are those of `count` elements of its line, those of a run, with op(A) as on the line's side.
+pub fn element(g: Grid, f: Formula, b: &mut [f64], i: usize, a: Op, run: Run, count: usize)
+    requires room { Room g.left g.ld g.m g.lines (length b.old) × (i < g.m) × Indices run.down run.from count × ((k : ℕ) → k < count → along run.down run.from k < g.m) }
     requires by_index { Square a g.m }
-    ensures { Summed g.left g.ld g.m g.lines i f.alpha f.start f.end (λ k. coefficient g.left (op_matrix a.entry) i (along down from k)) (along down from) count b.old b.new }
+    ensures { Summed g.left g.ld g.m g.lines i f.alpha f.start f.end (λ k. coefficient g.left (op_matrix a.entry) i (along run.down run.from k)) (along run.down run.from) count b.old b.new }
 {
     let columns = triangle::are_columns(g.left, a.t);
     let row = arrays::pick(columns, a.ld, 1);
     let sa = arrays::pick(columns, 1, a.ld);
     let x = i * row;
-    fours(g, f, b, i, &a.cells[x..], sa, down, from, count);
+    fours(g, f, b, i, &a.cells[x..], sa, run, count);
 }

@@ -11,7 +11,10 @@ ghost use Rattle.lines.specs.Lines.{cell, grid, within, line_form, line_term, Ro
 
 pub mod triangle;
 
+use arrays::Area;
+use direct::Product;
 use forms::Op;
+use packing::factor::{Factor, Run};
 use packing::{Form, factor, pack};
 
 // B by lines: for side L a line is a column, for side R a row. There are `lines` lines of m elements each, and ld is the leading dimension.
@@ -22,6 +25,12 @@ pub struct Grid {
     pub m: usize,
     pub lines: usize,
 }
+
+// The indices from the first one up.
+const FIRST: Run = Run {
+    from: 0,
+    down: false,
+};
 
 // How an array that holds its lines as one side does is read as the lines of the other side, or of the same.
 fn line_form(left: bool, side: bool) -> Form
@@ -41,11 +50,20 @@ pub fn take(g: Grid, side: bool, x: &mut [f64], b: &[f64], x0: usize, n: usize)
     ensures { x.new ≡ update (grid side 64 n g.lines (λ q l _. at b.now (cell g.left g.ld (x0 + q) l))) x.old }
 {
     let f = line_form(g.left, side);
+    let lines = Factor {
+        form: f,
+        cells: b,
+        ld: g.ld,
+    };
+    let elements = Run {
+        from: x0,
+        down: false,
+    };
     if side {
-        pack::pack(x, n, g.lines, f, b, g.ld, x0, false, 0, false);
+        pack::pack(x, n, g.lines, lines, elements, FIRST);
         return;
     }
-    pack::pack(x, g.lines, n, f, b, g.ld, 0, false, x0, false);
+    pack::pack(x, g.lines, n, lines, FIRST, elements);
 }
 
 // The elements from x0 on, n of them, of each line become those of x, which holds its lines as `side` says.
@@ -55,12 +73,17 @@ pub fn put(g: Grid, side: bool, b: &mut [f64], x0: usize, n: usize, x: &[f64])
     ensures { b.new ≡ update (grid g.left g.ld g.m g.lines (λ q l e. if within x0 n q then at x.now (cell side 64 (q - x0) l) else e)) b.old }
 {
     let f = line_form(side, g.left);
+    let lines = Factor {
+        form: f,
+        cells: x,
+        ld: 64,
+    };
     if g.left {
-        pack::lines(&mut b[x0..], g.ld, n, g.lines, f, x, 64, 0, false, 0, false);
+        pack::lines(&mut b[x0..], g.ld, n, g.lines, lines, FIRST, FIRST);
         return;
     }
     let to = x0 * g.ld;
-    pack::lines(&mut b[to..], g.ld, g.lines, n, f, x, 64, 0, false, 0, false);
+    pack::lines(&mut b[to..], g.ld, g.lines, n, lines, FIRST, FIRST);
 }
 
 // The terms of the elements from x0 on, n of them, whose values are in x, in the sums of the elements from y on, h of them.
@@ -83,46 +106,49 @@ pub fn add_terms(
     ensures { b.new ≡ update (grid g.left g.ld g.m g.lines (λ q l e. if within y h q then fold (λ e i. line_term g.left alpha (op_matrix a.entry) q e (x0 + turn down n i) (at x.now (cell g.left 64 (turn down n i) l))) n e else e)) b.old }
 {
     let f = forms::op_form(a.t);
+    let values = Factor {
+        form: Form::Plain,
+        cells: x,
+        ld: 64,
+    };
     if g.left {
         let from = factor::place(f, a.ld, y, x0);
-        kernel::multiply(
-            &mut b[y..],
-            g.ld,
-            h,
-            g.lines,
-            n,
-            f,
-            &a.cells[from..],
-            a.ld,
-            0,
-            Form::Plain,
-            x,
-            64,
-            0,
+        let entries = Factor {
+            form: f,
+            cells: &a.cells[from..],
+            ld: a.ld,
+        };
+        let p = Product {
+            left: entries,
+            right: values,
+            terms: n,
             alpha,
-            down,
-            r,
-        );
+        };
+        let sums = Area {
+            ld: g.ld,
+            rows: h,
+            cols: g.lines,
+        };
+        kernel::multiply(&mut b[y..], sums, p, 0, 0, down, r);
         return;
     }
     let from = factor::place(f, a.ld, x0, y);
     let to = y * g.ld;
-    kernel::multiply(
-        &mut b[to..],
-        g.ld,
-        g.lines,
-        h,
-        n,
-        Form::Plain,
-        x,
-        64,
-        0,
-        f,
-        &a.cells[from..],
-        a.ld,
-        0,
+    let entries = Factor {
+        form: f,
+        cells: &a.cells[from..],
+        ld: a.ld,
+    };
+    let p = Product {
+        left: values,
+        right: entries,
+        terms: n,
         alpha,
-        down,
-        r,
-    );
+    };
+    let sums = Area {
+        ld: g.ld,
+        rows: g.lines,
+        cols: h,
+    };
+    kernel::multiply(&mut b[to..], sums, p, 0, 0, down, r);
 }

@@ -8,8 +8,11 @@ ghost use Rattle.lines.specs.Lines.{cell, grid, within, line_term, Room};
 ghost use Rattle.trmm_diagonal.specs.Terms.{term_from, matrix_of};
 ghost use Rattle.trmm.specs.Sum.{sum_of};
 
+use arrays::Area;
+use direct::Product;
 use forms::Op;
 use lines::Grid;
+use packing::factor::Factor;
 use packing::{Form, factor};
 use trmm_diagonal::Multiplier;
 
@@ -37,46 +40,54 @@ fn beside(
     let f = forms::op_form(a.t);
     if g.left {
         let from = factor::place(f, a.ld, p0, lo);
-        kernel::multiply(
-            z,
-            64,
-            n,
-            g.lines,
-            count,
-            f,
-            &a.cells[from..],
-            a.ld,
-            0,
-            Form::Plain,
-            &b[lo..],
-            g.ld,
-            0,
+        let entries = Factor {
+            form: f,
+            cells: &a.cells[from..],
+            ld: a.ld,
+        };
+        let values = Factor {
+            form: Form::Plain,
+            cells: &b[lo..],
+            ld: g.ld,
+        };
+        let p = Product {
+            left: entries,
+            right: values,
+            terms: count,
             alpha,
-            false,
-            r,
-        );
+        };
+        let sums = Area {
+            ld: 64,
+            rows: n,
+            cols: g.lines,
+        };
+        kernel::multiply(z, sums, p, 0, 0, false, r);
         return;
     }
     let from = factor::place(f, a.ld, lo, p0);
     let x = lo * g.ld;
-    kernel::multiply(
-        z,
-        64,
-        g.lines,
-        n,
-        count,
-        Form::Plain,
-        &b[x..],
-        g.ld,
-        0,
-        f,
-        &a.cells[from..],
-        a.ld,
-        0,
+    let entries = Factor {
+        form: f,
+        cells: &a.cells[from..],
+        ld: a.ld,
+    };
+    let values = Factor {
+        form: Form::Plain,
+        cells: &b[x..],
+        ld: g.ld,
+    };
+    let p = Product {
+        left: values,
+        right: entries,
+        terms: count,
         alpha,
-        false,
-        r,
-    );
+    };
+    let sums = Area {
+        ld: 64,
+        rows: g.lines,
+        cols: n,
+    };
+    kernel::multiply(z, sums, p, 0, 0, false, r);
 }
 
 // All terms of the n elements from p0 on, whose sums are in z: those of the block itself and those on one side of it, in order.

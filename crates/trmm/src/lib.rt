@@ -21,11 +21,14 @@ ghost use Rattle.trmm.specs.Sum.{sum_of, line_value};
 
 pub mod block;
 
+use arrays::Area;
+use arrays::pieces::Pieces;
 use blocks::pass;
 use definitions::{Call, Diagonal, Scalar, Side};
 use elements::{End, Formula, Start};
 use forms::Op;
 use lines::Grid;
+use packing::factor::Run;
 use trmm_diagonal::Multiplier;
 
 // The first element of the next block of n, when k of m elements are done: from the first on if an element's terms lie after it, else from the last back.
@@ -43,8 +46,7 @@ fn sum_lines(g: Grid, by: Multiplier, b: &mut [f64], r: usize)
     requires by_index { Square by.a g.m }
     ensures { b.new ≡ update (grid g.left g.ld g.m g.lines (λ q l _. sum_of g.left by.entry.after by.entry.alpha (matrix_of by.entry) g.m (λ p. at b.old (cell g.left g.ld p l)) q)) b.old }
 {
-    for k in (0..g.m).step_by(r) {
-        let n = r.min(g.m - k);
+    for (k, n) in Pieces::of(g.m, r) {
         let p0 = next_block(by.after, g.m, k, n);
         block::block(g, by, b, p0, n, r);
     }
@@ -83,7 +85,11 @@ fn sum_element(g: Grid, by: Multiplier, b: &mut [f64], i: usize)
         alpha: by.alpha,
         end: end_of(by.after, w),
     };
-    elements::element(g, f, b, i, by.a, false, lo, count);
+    let others = Run {
+        from: lo,
+        down: false,
+    };
+    elements::element(g, f, b, i, by.a, others, count);
 }
 
 // Each element of each line becomes the sum of its terms, one after the other, without buffers: for tiny calls.
@@ -106,10 +112,24 @@ fn clear_lines(g: Grid, b: &mut [f64])
     ensures { b.new ≡ update (grid g.left g.ld g.m g.lines (λ q l _. 0f)) b.old }
 {
     if g.left {
-        pass::clear(b, g.ld, g.m, g.lines);
+        pass::clear(
+            b,
+            Area {
+                ld: g.ld,
+                rows: g.m,
+                cols: g.lines,
+            },
+        );
         return;
     }
-    pass::clear(b, g.ld, g.lines, g.m);
+    pass::clear(
+        b,
+        Area {
+            ld: g.ld,
+            rows: g.lines,
+            cols: g.m,
+        },
+    );
 }
 
 // Each element of each line gets its value: +0.0 if alpha is zero, and A is not read then.

@@ -13,6 +13,8 @@ ghost use Rattle.forms.specs.Forms.{op_form, op_matrix, Square};
 ghost use Rattle.lines.specs.Lines.{cell, grid, within, coefficient, Room};
 ghost use Rattle.trmm_diagonal.specs.Terms.{has, held_terms, term_from, matrix_of, Pivots};
 
+use arrays::Area;
+use arrays::pieces::Pieces;
 use blocks::{block, pass};
 use definitions::Diagonal;
 use forms::Op;
@@ -69,28 +71,30 @@ fn group(
 {
     let x = j * 64;
     let y = x + j;
+    let elements = Area {
+        ld: 64,
+        rows: lines,
+        cols: h,
+    };
     if after {
         let end = j + h;
         let from = end * 64;
         let w = x + end;
         walk(after, &mut s[x..], lines, h, &u[x..], &v[y..]);
-        block::block(&mut s[x..], 64, lines, h, n - end, &u[from..], &v[w..]);
+        block::block(&mut s[x..], elements, n - end, &u[from..], &v[w..]);
         return;
     }
-    block::block(&mut s[x..], 64, lines, h, j, u, &v[x..]);
+    block::block(&mut s[x..], elements, j, u, &v[x..]);
     walk(after, &mut s[x..], lines, h, &u[x..], &v[y..]);
 }
 
-// The terms of n elements for these elements themselves, group after group. A `while`: `block::small` says how far each goes.
+// The terms of n elements for these elements themselves, group after group.
 fn groups(after: bool, s: &mut [f64], lines: usize, n: usize, u: &[f64], v: &[f64])
     requires { (n ≤ 64) × (lines ≤ 64) × (4096 ≤ length s.old) × (4096 ≤ length u.now) × (4096 ≤ length v.now) }
     ensures { s.new ≡ update (grid false 64 n lines (λ q l e. held_terms after n u.now v.now q l e)) s.old }
 {
-    let mut j = 0;
-    while j < n {
-        let h = block::small(n - j);
+    for (j, h) in Pieces::of(n, block::SMALL) {
         group(after, s, lines, n, j, h, u, v);
-        j += h;
     }
 }
 
@@ -125,11 +129,21 @@ pub fn across(g: Grid, by: Multiplier, b: &[f64], p0: usize, n: usize, s: &mut [
     lines::take(g, false, &mut x, b, p0, n);
     triangle(g.left, by, p0, n, &mut v);
     if g.left {
-        pass::scale(&mut x, 64, g.lines, n, by.alpha);
+        let values = Area {
+            ld: 64,
+            rows: g.lines,
+            cols: n,
+        };
+        pass::scale(&mut x, values, by.alpha);
         groups(by.after, s, g.lines, n, &x, &v);
         return;
     }
-    pass::scale(&mut v, 64, n, n, by.alpha);
+    let coefficients = Area {
+        ld: 64,
+        rows: n,
+        cols: n,
+    };
+    pass::scale(&mut v, coefficients, by.alpha);
     groups(by.after, s, g.lines, n, &x, &v);
 }
 

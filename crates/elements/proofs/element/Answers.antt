@@ -35,8 +35,8 @@ slice_bounds-fours-start c = omega (arith, first (goal.at.slice_bounds-fours-sta
 pub fours-requires : goal.fours-requires
 fours-requires c = let p = c.requires.room in
     let args = c.args in
-    (p.0, p.1, p.2, λ k h. (p.3 k h, omega (arith, inside (goal.at.fours-requires c).After-pick-sa (along args.down args.from k) (p.3 k h), tail-length (args.i * c.pick-row.result) args.a.cells.now)))
+    (p.0, p.1, p.2, λ k h. (p.3 k h, omega (arith, inside (goal.at.fours-requires c).After-pick-sa (along args.run.down args.run.from k) (p.3 k h), tail-length (args.i * c.pick-row.result) args.a.cells.now)))
 
 pub returns : goal.returns
 returns c = let args = c.args in
-    summed_at args.g.left args.a.t args.a.cells.now args.a.ld _ _ args.g.ld args.g.m args.g.lines args.i args.f.alpha args.f.start args.f.end (along args.down args.from) args.count args.b.now _ (stand (goal.at.returns c).After-pick-sa) c.fours.ensures
+    summed_at args.g.left args.a.t args.a.cells.now args.a.ld _ _ args.g.ld args.g.m args.g.lines args.i args.f.alpha args.f.start args.f.end (along args.run.down args.run.from) args.count args.b.now _ (stand (goal.at.returns c).After-pick-sa) c.fours.ensures

@@ -29,7 +29,7 @@ bounds-b-w-2 c = simp length-set (omega (arith, here (goal.at.bounds-b-w-2 c).Af
 pub returns : goal.returns
 returns c =
     let args = c.args in
-    let place = along args.down args.from in
+    let place = along args.run.down args.run.from in
     let across = c.pick-across.result in
     let step = c.pick-step.result in
     let more = line-more args.g.left args.g.ld args.g.m args.i args.f.alpha args.f.start args.f.end (λ k. at args.a.now (place k * args.sa)) place args.count 4 in

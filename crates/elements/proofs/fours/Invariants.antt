@@ -6,4 +6,4 @@ use Rattle.elements.specs.Sums.{Summed}
 use Rattle.elements.proofs.fours.Given as goal
 
 abbrev pub invariant-loop-q : goal.invariant-loop-q
-invariant-loop-q l = Summed l.g.left l.g.ld l.g.m (4 * l.q) l.i l.f.alpha l.f.start l.f.end (λ k. at l.a (along l.down l.from k * l.sa)) (along l.down l.from) l.count l.initial.b l.b
+invariant-loop-q l = Summed l.g.left l.g.ld l.g.m (4 * l.q) l.i l.f.alpha l.f.start l.f.end (λ k. at l.a (along l.run.down l.run.from k * l.sa)) (along l.run.down l.run.from) l.count l.initial.b l.b

@@ -6,4 +6,4 @@ use Rattle.elements.specs.Sums.{Summed}
 use Rattle.elements.proofs.singles.Given as goal
 
 abbrev pub invariant-loop-l : goal.invariant-loop-l
-invariant-loop-l l = Summed l.g.left l.g.ld l.g.m l.l l.i l.f.alpha l.f.start l.f.end (λ k. at l.a (along l.down l.from k * l.sa)) (along l.down l.from) l.count l.initial.b l.b
+invariant-loop-l l = Summed l.g.left l.g.ld l.g.m l.l l.i l.f.alpha l.f.start l.f.end (λ k. at l.a (along l.run.down l.run.from k * l.sa)) (along l.run.down l.run.from) l.count l.initial.b l.b

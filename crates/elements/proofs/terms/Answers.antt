@@ -12,10 +12,10 @@ loop-k-init c = (sym (fold-none _ _), sym (fold-none _ _), sym (fold-none _ _), 
 
 pub loop-k-preserved : goal.loop-k-preserved
 loop-k-preserved c = (
-  term-more _ _ (λ p. at c.args.a.now (p * c.args.sa)) (λ p. at c.args.b.now (p * c.args.step)) _ _ _ _ c.step-p.ensures c.loop-k.invariant.0 c.term-e.ensures,
-  term-more _ _ (λ p. at c.args.a.now (p * c.args.sa)) (λ p. at c.args.b.now (p * c.args.step + c.args.across)) _ _ _ _ c.step-p.ensures c.loop-k.invariant.1 c.term-f.ensures,
-  term-more _ _ (λ p. at c.args.a.now (p * c.args.sa)) (λ p. at c.args.b.now (p * c.args.step + 2 * c.args.across)) _ _ _ _ c.step-p.ensures c.loop-k.invariant.2 c.term-g.ensures,
-  term-more _ _ (λ p. at c.args.a.now (p * c.args.sa)) (λ p. at c.args.b.now (p * c.args.step + 3 * c.args.across)) _ _ _ _ c.step-p.ensures c.loop-k.invariant.3 c.term-h.ensures,
+  term-more _ _ (λ p. at c.args.a.now (p * c.args.sa)) (λ p. at c.args.b.now (p * c.args.step)) _ _ _ _ c.index-p.ensures c.loop-k.invariant.0 c.term-e.ensures,
+  term-more _ _ (λ p. at c.args.a.now (p * c.args.sa)) (λ p. at c.args.b.now (p * c.args.step + c.args.across)) _ _ _ _ c.index-p.ensures c.loop-k.invariant.1 c.term-f.ensures,
+  term-more _ _ (λ p. at c.args.a.now (p * c.args.sa)) (λ p. at c.args.b.now (p * c.args.step + 2 * c.args.across)) _ _ _ _ c.index-p.ensures c.loop-k.invariant.2 c.term-g.ensures,
+  term-more _ _ (λ p. at c.args.a.now (p * c.args.sa)) (λ p. at c.args.b.now (p * c.args.step + 3 * c.args.across)) _ _ _ _ c.index-p.ensures c.loop-k.invariant.3 c.term-h.ensures,
 )
 
 pub returns : goal.returns

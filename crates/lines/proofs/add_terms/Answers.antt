@@ -34,11 +34,11 @@ first c =
 pub offset_bounds-a-from-2 : goal.offset_bounds-a-from-2
 offset_bounds-a-from-2 c = omega (arith, first (goal.at.offset_bounds-a-from-2 c).After-place-from-2)
 
-pub slice_bounds-multiply-count-3 : goal.slice_bounds-multiply-count-3
-slice_bounds-multiply-count-3 c = omega (arith, first (goal.at.slice_bounds-multiply-count-3 c).After-place-from-2)
+pub slice_bounds-entries-count-2 : goal.slice_bounds-entries-count-2
+slice_bounds-entries-count-2 c = omega (arith, first (goal.at.slice_bounds-entries-count-2 c).After-place-from-2)
 
-pub slice_bounds-multiply-start-3 : goal.slice_bounds-multiply-start-3
-slice_bounds-multiply-start-3 c = omega (arith, first (goal.at.slice_bounds-multiply-start-3 c).After-place-from-2)
+pub slice_bounds-entries-start-2 : goal.slice_bounds-entries-start-2
+slice_bounds-entries-start-2 c = omega (arith, first (goal.at.slice_bounds-entries-start-2 c).After-place-from-2)
 
 pub multiply-requires-2-clause-rows_nonzero : goal.multiply-requires-2-clause-rows_nonzero
 multiply-requires-2-clause-rows_nonzero c =

@@ -1,7 +1,8 @@
--- `sum_lines` meets its contract: the first k elements that are done have their sums, the others are as at entry.
-use Prim.Native.Nat.{◌+◌, ◌<◌}
-use mathlib.Core.Path.{◌≡◌}
+-- `sum_lines` meets its contract: the elements of the pieces that are done have their sums, the others are as at entry.
+use Prim.Native.Nat.{◌<◌}
+use mathlib.Core.Path.{sym, ◌∙◌}
 use lib.ListN.{length}
+use Rattle.arrays.proofs.PieceLaws.{turn, last}
 use Rattle.lines.proofs.GridLaws.{some-ld}
 use Rattle.trmm_diagonal.proofs.DoneLaws.{none_done, all_done}
 use Rattle.trmm.proofs.OrderLaws.{block-done}
@@ -14,21 +15,24 @@ wide c =
     let g = c.args.g in some-ld g.left g.ld g.m g.lines (length c.args.b.now) (omega (arith, c.requires.m_nonzero)) (omega (arith, c.requires.m_nonzero)) c.requires.room
 
 pub loop-k-init : goal.loop-k-init
-loop-k-init c = (omega arith, none_done _ _ _ _ _ _ _)
+loop-k-init c = rw c.into_iter-k-iterator.ensures.into_iter_gives (omega (arith, c.requires.m_nonzero), tt, c.of-k-items.ensures.1, c.of-k-items.ensures.2, rw c.of-k-items.ensures.0 (none_done _ _ _ _ _ _ _))
+
+pub next_block-p0-requires : goal.next_block-p0-requires
+next_block-p0-requires c = let t = turn c.next.ensures.steps c.in-Some.is in omega arith
+
+pub block-requires-clause-n_nonzero : goal.block-requires-clause-n_nonzero
+block-requires-clause-n_nonzero c = let t = turn c.next.ensures.steps c.in-Some.is in omega (arith, c.requires.m_nonzero)
 
 pub loop-k-preserved : goal.loop-k-preserved
 loop-k-preserved c =
-    let e : c.min-n.result ≡ c.args.r = omega arith in
-    (omega arith, rw e at (block-done _ c.args.by.after _ _ _ _ _ _ _ _ c.args.b.now _ _ (wide (goal.at.loop-k-preserved c).Start) c.requires.room c.next_block-p0.ensures.0 c.loop-k.invariant.1 c.block.ensures))
+    let t = turn c.next.ensures.steps c.in-Some.is in (
+      omega arith,
+      tt,
+      omega arith,
+      omega arith,
+      rw t.next
+          (block-done _ c.args.by.after _ _ _ _ _ _ _ _ c.args.b.now _ _ (wide (goal.at.loop-k-preserved c).Start) c.requires.room c.next_block-p0.ensures.0 (rw (sym t.first) at c.loop-k.invariant.4) c.block.ensures),
+    )
 
 pub returns : goal.returns
-returns c =
-    let e : c.loop-k.k ≡ c.args.g.m = omega arith in
-    all_done _ _ _ _ _ _ _ _ (wide (goal.at.returns c).Start) (rw e at c.loop-k.invariant.1)
-
--- after the last block
-pub returns-2 : goal.returns-2
-returns-2 c =
-    let e : c.loop-k.k + c.min-n.result ≡ c.args.g.m = omega arith in
-    all_done _ _ _ _ _ _ _ _ (wide (goal.at.returns-2 c).Start)
-    (rw e at (block-done _ c.args.by.after _ _ _ _ _ _ _ _ c.args.b.now _ _ (wide (goal.at.returns-2 c).Start) c.requires.room c.next_block-p0.ensures.0 c.loop-k.invariant.1 c.block.ensures))
+returns c = let all = last c.next.ensures.steps c.in-None.is ∙ c.loop-k.invariant.2 in all_done _ _ _ _ _ _ _ _ (wide (goal.at.returns c).Start) (rw all at c.loop-k.invariant.4)
