@@ -1,11 +1,10 @@
 // TRSM: the update of one strip. The unknowns are solved in order: a block of them, and then its terms in the sums of all that are left; in a tiny call one after the
-// other, straight from the arrays. Each function that solves hands back the lowest index at which the diagonal is zero, or one past the last if there is none.
+// other, straight from the arrays. Each function that solves hands back the lowest index at which the diagonal is zero, if there is one.
 #![tactic(auto)]
 
-ghost use Rattle.std.specs.Prelude.{◌≡◌, Bool, false, not, ◌&&◌, List, ℕ, ◌+◌, ◌*◌, ◌≤◌, ◌<◌, length, Float};
+ghost use Rattle.std.specs.Prelude.{◌≡◌, Bool, false, not, ◌&&◌, List, ℕ, ◌+◌, ◌*◌, ◌≤◌, ◌<◌, length, IfSome, Float};
 ghost use Rattle.arrays.specs.Update.{update};
-ghost use Rattle.arrays.specs.Search as Search;
-ghost use Rattle.arrays.specs.Search.{Lowest};
+ghost use Rattle.arrays.specs.Search.{Found, reported};
 ghost use Rattle.floats.specs.Array.{at};
 ghost use Rattle.definitions.specs.Number.{is_zero};
 ghost use Rattle.definitions.specs.Call.{by_side, extent};
@@ -52,21 +51,19 @@ fn update_rest(
     requires by_index { (i j : ℕ) → i < m → j < m → index_of (op_form t) lda i j < length a.now }
     ensures { (diag : DiagonalOf) → Step left down ld m lines diag (entry_of (op_form t) a.now lda) (λ k. front (p + n) (p + n) (front m p k)) (front m (p + n)) b.old b.new }
 {
-    let mut i = p + n;
-    if i == m {
+    if p + n == m {
         return;
     }
     let w = reach(left, m);
     let mut x = [0.0f64; 4096];
     let x0 = trsm_diagonal::least(down, m, p, n);
     lines::take(left, left, &mut x, b, ld, m, lines, x0, n);
-    while i < m {
-        let h = arrays::smaller(w, m - i);
+    for i in (p + n..m).step_by(w) {
+        let h = w.min(m - i);
         let y = trsm_diagonal::least(down, m, i, h);
         lines::add_terms(
             left, down, b, ld, m, lines, -1.0, t, a, lda, x0, n, y, h, &x, r,
         );
-        i += h;
     }
 }
 
@@ -84,12 +81,12 @@ fn solve_block(
     lda: usize,
     p: usize,
     n: usize,
-) -> usize
+) -> Option<usize>
     requires n_nonzero { (0 < n) × (n ≤ 64) × (p + n ≤ m) × (0 < lines) × (lines ≤ 64) }
     requires room { Room left ld m lines (length b.old) }
     requires by_index { (i j : ℕ) → i < m → j < m → index_of (op_form t) lda i j < length a.now }
     ensures { Step left down ld m lines diag (entry_of (op_form t) a.now lda) (front (p + n) p) (front (p + n) (p + n)) b.old b.new
-        × Lowest (zero_among down m diag (entry_of (op_form t) a.now lda) p (p + n)) m result }
+        × Found (zero_among down m diag (entry_of (op_form t) a.now lda) p (p + n)) m result }
 {
     let x0 = trsm_diagonal::least(down, m, p, n);
     if left {
@@ -97,7 +94,7 @@ fn solve_block(
         lines::take(left, false, &mut s, b, ld, m, lines, x0, n);
         let z = trsm_diagonal::solve_across(left, down, diag, &mut s, 64, lines, t, a, lda, x0, n);
         lines::put(left, false, b, ld, m, lines, x0, n, &s);
-        return trsm_diagonal::lower(m, z < n, x0 + z);
+        return z.map(|i| x0 + i);
     }
     let to = x0 * ld;
     let z = trsm_diagonal::solve_across(
@@ -113,7 +110,7 @@ fn solve_block(
         x0,
         n,
     );
-    trsm_diagonal::lower(m, z < n, x0 + z)
+    z.map(|i| x0 + i)
 }
 
 // All unknowns, by blocks of r.
@@ -129,21 +126,19 @@ fn solve(
     a: &[f64],
     lda: usize,
     r: usize,
-) -> usize
+) -> Option<usize>
     requires m_nonzero { (0 < m) × (0 < lines) × (lines ≤ 64) × (0 < r) × (r ≤ 64) }
     requires room { Room left ld m lines (length b.old) }
     requires by_index { (i j : ℕ) → i < m → j < m → index_of (op_form t) lda i j < length a.now }
     ensures { Step left down ld m lines diag (entry_of (op_form t) a.now lda) (front m 0) (front m m) b.old b.new
-        × Lowest (λ i. by_zero diag (entry_of (op_form t) a.now lda i i)) m result }
+        × Found (λ i. by_zero diag (entry_of (op_form t) a.now lda i i)) m result }
 {
-    let mut zero = m;
-    let mut q = 0;
-    while q < m {
-        let n = arrays::smaller(r, m - q);
+    let mut zero = None;
+    for q in (0..m).step_by(r) {
+        let n = r.min(m - q);
         let z = solve_block(left, down, diag, b, ld, m, lines, t, a, lda, q, n);
         update_rest(left, down, b, ld, m, lines, t, a, lda, q, n, r);
-        zero = trsm_diagonal::lower(zero, true, z);
-        q += n;
+        zero = trsm_diagonal::lower(zero, z);
     }
     zero
 }
@@ -222,20 +217,19 @@ fn solve_elements(
     t: Transpose,
     a: &[f64],
     lda: usize,
-) -> usize
+) -> Option<usize>
     requires m_nonzero { (0 < m) × (0 < lines) }
     requires room { Room left ld m lines (length b.old) }
     requires by_index { (i j : ℕ) → i < m → j < m → index_of (op_form t) lda i j < length a.now }
     ensures { Step left down ld m lines diag (entry_of (op_form t) a.now lda) (front m 0) (front m m) b.old b.new
-        × Lowest (λ i. by_zero diag (entry_of (op_form t) a.now lda i i)) m result }
+        × Found (λ i. by_zero diag (entry_of (op_form t) a.now lda i i)) m result }
 {
-    let mut zero = m;
-    let mut j = 0;
-    while j < m {
+    let mut zero = None;
+    for j in 0..m {
         let i = factor::turn_of(down, m, j);
         solve_element(left, down, diag, b, ld, m, lines, t, a, lda, j);
-        zero = trsm_diagonal::lower(zero, ends_by_zero(diag, a, i * lda + i), i);
-        j += 1;
+        let found = ends_by_zero(diag, a, i * lda + i);
+        zero = trsm_diagonal::lower(zero, found.then_some(i));
     }
     zero
 }
@@ -254,18 +248,18 @@ fn solve_lines(
     a: &[f64],
     lda: usize,
     r: usize,
-) -> usize
+) -> Option<usize>
     requires m_nonzero { (0 < m) × (0 < lines) × (lines ≤ 64) × (0 < r) × (r ≤ 64) }
     requires room { Room left ld m lines (length b.old) }
     requires j_in_bounds { is_zero alpha ≡ false → (i j : ℕ) → i < m → j < m → index_of (op_form t) lda i j < length a.now }
     ensures { (b.new ≡ update (grid left ld m lines (λ i l _. line_value left down m diag alpha (entry_of (op_form t) a.now lda) (λ p. at b.old (cell left ld p l)) i)) b.old)
-        × Lowest (λ i. not (is_zero alpha) && by_zero diag (entry_of (op_form t) a.now lda i i)) m result }
+        × Found (λ i. not (is_zero alpha) && by_zero diag (entry_of (op_form t) a.now lda i i)) m result }
 {
     let rows = arrays::pick(left, m, lines);
     let cols = arrays::pick(left, lines, m);
     if alpha.is_zero() {
         pass::clear(b, ld, rows, cols);
-        return m;
+        return None;
     }
     pass::scale(b, ld, rows, cols, alpha.factor());
     if direct::tiny(m, lines, m) {
@@ -274,12 +268,15 @@ fn solve_lines(
     solve(left, down, diag, b, ld, m, lines, t, a, lda, r)
 }
 
-// The index z below m as a number, or -1 if it is m.
-fn report(z: usize, m: usize) -> i32
-    requires { z < m → z < 2147483648 }
-    ensures { result ≡ Search.answer m z }
+// The index as a number, or -1 if there is none.
+fn report(z: Option<usize>) -> i32
+    requires { IfSome z (λ i. i < 2147483648) }
+    ensures { result ≡ reported z }
 {
-    if z < m { z as i32 } else { -1 }
+    match z {
+        Some(i) => i as i32,
+        None => -1,
+    }
 }
 
 // TRSM's strip of `lines` columns (side L) or rows (side R) from column or row `from` on: b is the part of B that starts there, and blocks are of r unknowns. It
@@ -301,13 +298,7 @@ pub fn trsm_strip(call: Call, a: &[f64], b: &mut [f64], from: usize, lines: usiz
     let ldb = call.ldb as usize;
     let low = forms::op_lower(t, uplo);
     match side {
-        Side::Left => report(
-            solve_lines(true, !low, diag, alpha, b, ldb, m, lines, t, a, lda, r),
-            m,
-        ),
-        Side::Right => report(
-            solve_lines(false, low, diag, alpha, b, ldb, n, lines, t, a, lda, r),
-            n,
-        ),
+        Side::Left => report(solve_lines(true, !low, diag, alpha, b, ldb, m, lines, t, a, lda, r)),
+        Side::Right => report(solve_lines(false, low, diag, alpha, b, ldb, n, lines, t, a, lda, r)),
     }
 }

@@ -1,11 +1,11 @@
 // The unknowns of one diagonal block, whose lines stand across: they are solved in order, a group of them and then the next. Each function that solves hands back
-// the lowest index at which the diagonal is zero, or one past the last if there is none.
+// the lowest index at which the diagonal is zero, if there is one.
 #![tactic(auto)]
 
 ghost use Rattle.std.specs.Prelude.{◌≡◌, false, ℕ, ◌+◌, ◌*◌, ◌≤◌, ◌<◌, length};
 ghost use Rattle.arrays.specs.Update.{update, below};
 ghost use Rattle.arrays.specs.Search as Search;
-ghost use Rattle.arrays.specs.Search.{Lowest};
+ghost use Rattle.arrays.specs.Search.{Found};
 ghost use Rattle.floats.specs.Array.{at};
 ghost use Rattle.definitions.specs.Element.{divided, by_zero};
 ghost use Rattle.packing.specs.Factor.{index_of, entry_of, turn};
@@ -49,11 +49,14 @@ fn matrix_factors(
     pass::scale(v, 64, n, n, -1.0);
 }
 
-// The index i if it was found and is below r, else r.
-pub fn lower(r: usize, found: bool, i: usize) -> usize
-    ensures { result ≡ Search.lower r found i }
+// The lower of two indices, either of which may be missing.
+pub fn lower(a: Option<usize>, b: Option<usize>) -> Option<usize>
+    ensures { result ≡ Search.lower a b }
 {
-    if found & (i < r) { i } else { r }
+    match (a, b) {
+        (Some(i), Some(j)) => Some(i.min(j)),
+        _ => a.or(b),
+    }
 }
 
 // One unknown of all lines: the terms of the j before it, and then the division by a[k], unless the diagonal is unit. It hands back whether that is by zero.
@@ -109,16 +112,15 @@ fn solve_unknowns(
     lda: usize,
     u: &mut [f64],
     v: &[f64],
-) -> usize
+) -> Option<usize>
     requires n_bound { (n ≤ 64) × (0 < lines) × (lines ≤ 64) × (n * 64 ≤ length u.old) × (n * 64 + n ≤ length v.now + 64) × ((i : ℕ) → i < n → i * lda + i < length a.now) }
     requires room { Room false ld n lines (length s.old) }
     ensures { (s.new ≡ update (ordered false down ld n lines (λ q l _. packed_value left down n diag (entry_of Plain a.now lda) v.now (λ i. at s.old (cell false ld i l)) q)) s.old)
         × (u.new ≡ update (grid false 64 n lines (λ q l _. value_factor left (packed_value left down n diag (entry_of Plain a.now lda) v.now (λ i. at s.old (cell false ld i l)) q))) u.old)
-        × Lowest (λ i. by_zero diag (entry_of Plain a.now lda i i)) n result }
+        × Found (λ i. by_zero diag (entry_of Plain a.now lda i i)) n result }
 {
-    let mut zero = n;
-    let mut j = 0;
-    while j < n {
+    let mut zero = None;
+    for j in 0..n {
         let i = factor::turn_of(down, n, j);
         let to = i * ld;
         let row = i * 64;
@@ -126,8 +128,7 @@ fn solve_unknowns(
         let k = i * lda + i;
         let found = solve_unknown(diag, &mut s[to..], lines, j, u, &v[row..], a, k);
         value_factors(left, &mut u[x..], lines, &s[to..]);
-        zero = lower(zero, found, i);
-        j += 1;
+        zero = lower(zero, found.then_some(i));
     }
     zero
 }
@@ -146,13 +147,13 @@ fn solve_groups(
     lda: usize,
     u: &mut [f64],
     v: &[f64],
-) -> usize
+) -> Option<usize>
     requires n_bound { (n ≤ 64) × (0 < lines) × (lines ≤ 64) × (4096 ≤ length u.old) × (4096 ≤ length v.now) × ((i : ℕ) → i < n → i * lda + i < length a.now) }
     requires room { Room false ld n lines (length s.old) }
     ensures { (s.new ≡ update (ordered false down ld n lines (λ q l _. packed_value left down n diag (entry_of Plain a.now lda) v.now (λ i. at s.old (cell false ld i l)) q)) s.old)
-        × Lowest (λ i. by_zero diag (entry_of Plain a.now lda i i)) n result }
+        × Found (λ i. by_zero diag (entry_of Plain a.now lda i i)) n result }
 {
-    let mut zero = n;
+    let mut zero = None;
     let mut j = 0;
     while j < n {
         let h = block::small(n - j);
@@ -176,7 +177,7 @@ fn solve_groups(
             &mut u[x..],
             &v[w..],
         );
-        zero = lower(zero, z < h, y + z);
+        zero = lower(zero, z.map(|i| y + i));
         j += h;
     }
     zero
@@ -195,11 +196,11 @@ pub fn solve_across(
     lda: usize,
     x0: usize,
     n: usize,
-) -> usize
+) -> Option<usize>
     requires n_nonzero { (0 < n) × (n ≤ 64) × (0 < lines) × (lines ≤ 64) × (x0 + n < 18446744073709551616) × ((i j : ℕ) → i < n → j < n → index_of (op_form t) lda (x0 + i) (x0 + j) < length a.now) }
     requires room { Room false ld n lines (length s.old) }
     ensures { (s.new ≡ update (ordered false down ld n lines (λ q l _. block_value left down n diag (λ i j. entry_of (op_form t) a.now lda (x0 + i) (x0 + j)) (λ i. at s.old (cell false ld i l)) q)) s.old)
-        × Lowest (λ i. by_zero diag (entry_of (op_form t) a.now lda (x0 + i) (x0 + i))) n result }
+        × Found (λ i. by_zero diag (entry_of (op_form t) a.now lda (x0 + i) (x0 + i))) n result }
 {
     let mut u = [0.0f64; 4096];
     let mut v = [0.0f64; 4096];

@@ -1,13 +1,15 @@
 -- `solve_block` solves a diagonal block: side L in a copy of its lines, side R where they are.
+use Rattle.std.proofs.Common.{rules}
 use mathlib.Core.Path.{refl}
 use Prim.Native.Nat.{◌+◌, ◌<◌}
 use native.Mathlib.Omega.{arith}
 use Rattle.arrays.proofs.PartLaws.{tail-length, column-room, columns-room}
+use Rattle.arrays.proofs.SearchLaws.{mapped}
 use Rattle.packing.specs.Factor.{entry_of}
 use Rattle.forms.specs.Forms.{op_form}
 use Rattle.lines.proofs.GridLaws.{some-ld}
+use Rattle.trsm_diagonal.proofs.ZeroLaws.{zero-found}
 use Rattle.trsm.proofs.BlockStepLaws.{copied-step, lent-step}
-use Rattle.trsm.proofs.ReportLaws.{zero-block}
 use Rattle.trsm.proofs.solve_block.Goals as goal
 use Rattle.trsm.proofs.solve_block.Goals.{After-least-x0}
 
@@ -21,7 +23,8 @@ returns-then-left c =
     let g = c.args in (
       copied-step g.left g.down g.ld g.m g.lines g.diag (entry_of (op_form g.t) g.a.now g.lda) g.p g.n c.least-x0.result g.b.now (some-ld g.left g.ld g.m g.lines _ (omega (arith, c.requires)) (omega (arith, c.requires)) c.requires.room) (omega (arith, c.requires)) c.least-x0.ensures.0 c.requires.room
           _ _ _ _ (omega (arith, c.requires), omega (arith, c.requires)) c.take.ensures c.solve_across-z.ensures.0 c.put.ensures,
-      zero-block g.down g.m g.diag (entry_of (op_form g.t) g.a.now g.lda) g.p g.n c.least-x0.result c.solve_across-z.result _ (omega (arith, c.requires)) c.least-x0.ensures.0 c.least-x0.ensures.1 c.solve_across-z.ensures.1 c.lower.ensures,
+      zero-found g.down g.m g.diag (entry_of (op_form g.t) g.a.now g.lda) g.p g.n c.least-x0.result c.solve_across-z.result _ (omega (arith, c.requires)) c.least-x0.ensures.0 c.least-x0.ensures.1 c.solve_across-z.ensures.1
+          (mapped (λ i. c.least-x0.result + i) _ (λ x r p. search rules) _ _ c.map.ensures.cases),
     )
 
 pub solve_across-z-requires-2 : goal.solve_across-z-requires-2
@@ -36,5 +39,6 @@ returns c =
     let room = rw c.if-left.false at c.requires.room in (
       lent-step g.left g.down g.ld g.m g.lines g.diag (entry_of (op_form g.t) g.a.now g.lda) g.p g.n c.least-x0.result g.b.now (some-ld g.left g.ld g.m g.lines _ (omega (arith, c.requires)) (omega (arith, c.requires)) c.requires.room) (omega (arith, c.requires)) c.least-x0.ensures.0 c.requires.room
           _ _ c.if-left.false refl (omega (arith, room, column-room c.args.ld (first-low (goal.at.returns c).After-least-x0))) c.least-x0.ensures.1 c.solve_across-z-2.ensures.0,
-      zero-block g.down g.m g.diag (entry_of (op_form g.t) g.a.now g.lda) g.p g.n c.least-x0.result c.solve_across-z-2.result _ (omega (arith, c.requires)) c.least-x0.ensures.0 c.least-x0.ensures.1 c.solve_across-z-2.ensures.1 c.lower-2.ensures,
+      zero-found g.down g.m g.diag (entry_of (op_form g.t) g.a.now g.lda) g.p g.n c.least-x0.result c.solve_across-z-2.result _ (omega (arith, c.requires)) c.least-x0.ensures.0 c.least-x0.ensures.1 c.solve_across-z-2.ensures.1
+          (mapped (λ i. c.least-x0.result + i) _ (λ x r p. search rules) _ _ c.map-2.ensures.cases),
     )

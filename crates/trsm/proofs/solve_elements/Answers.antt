@@ -3,6 +3,7 @@ use Prim.Native.Nat.{ℕ, ◌+◌, ◌*◌, ◌<◌}
 use mathlib.Core.Path.{◌≡◌, refl, sym, ap, subst, ◌∙◌}
 use native.Mathlib.Omega.{arith}
 use lib.ListN.{length}
+use Rattle.arrays.specs.Search.{lower}
 use Rattle.floats.specs.Array.{at}
 use Rattle.definitions.specs.Element.{by_zero}
 use Rattle.packing.specs.Factor.{entry_of}
@@ -24,7 +25,7 @@ diagonal-read c =
 pub loop-j-init : goal.loop-j-init
 loop-j-init c =
     let g = c.args in
-    (omega arith, refl, elements-none g.left g.down g.ld g.m g.lines g.diag g.t g.a.now g.lda (some-ld g.left g.ld g.m g.lines _ (omega (arith, c.requires)) (omega (arith, c.requires)) c.requires.room) g.b.now, zero-none g.down g.m g.diag (entry_of (op_form g.t) g.a.now g.lda))
+    (refl, elements-none g.left g.down g.ld g.m g.lines g.diag g.t g.a.now g.lda (some-ld g.left g.ld g.m g.lines _ (omega (arith, c.requires)) (omega (arith, c.requires)) c.requires.room) g.b.now, zero-none g.down g.m g.diag (entry_of (op_form g.t) g.a.now g.lda))
 
 pub overflow_mul-i : goal.overflow_mul-i
 overflow_mul-i c = omega (arith, diagonal-read (goal.at.overflow_mul-i c).After-turn_of-i)
@@ -32,8 +33,8 @@ overflow_mul-i c = omega (arith, diagonal-read (goal.at.overflow_mul-i c).After-
 pub overflow_add-i : goal.overflow_add-i
 overflow_add-i c = omega (arith, diagonal-read (goal.at.overflow_add-i c).After-turn_of-i)
 
-pub ends_by_zero-requires : goal.ends_by_zero-requires
-ends_by_zero-requires c = diagonal-read (goal.at.ends_by_zero-requires c).After-turn_of-i
+pub ends_by_zero-found-requires : goal.ends_by_zero-found-requires
+ends_by_zero-found-requires c = diagonal-read (goal.at.ends_by_zero-found-requires c).After-turn_of-i
 
 pub loop-j-preserved : goal.loop-j-preserved
 unfolding entry_of
@@ -41,11 +42,10 @@ loop-j-preserved c =
     let g = c.args in
     let h = c.loop-j in
     let i = c.turn_of-i.result in (
-      omega arith,
-      omega (arith, h.invariant.1, c.solve_element.auto),
-      λ start k b₀ e. c.solve_element.ensures start k b₀ (h.invariant.2 start k b₀ e),
-      zero-unknown g.down g.m g.diag (entry_of (op_form g.t) g.a.now g.lda) h.j i h.zero _ c.ends_by_zero.result c.loop-j-test.true c.turn_of-i.ensures.0 h.invariant.3
-          (c.ends_by_zero.ensures ∙ ap (λ (x : ℕ). by_zero g.diag (at g.a.now x)) (sym (diagonal-index g.t g.lda i))) c.lower-zero.ensures,
+      omega (arith, h.invariant.0, c.solve_element.auto),
+      λ start k b₀ e. c.solve_element.ensures start k b₀ (h.invariant.1 start k b₀ e),
+      zero-unknown g.down g.m g.diag (entry_of (op_form g.t) g.a.now g.lda) h.j i h.zero _ c.ends_by_zero-found.result (omega arith) c.turn_of-i.ensures.0 h.invariant.2
+          (c.ends_by_zero-found.ensures ∙ ap (λ (x : ℕ). by_zero g.diag (at g.a.now x)) (sym (diagonal-index g.t g.lda i))) (c.lower-zero.ensures ∙ ap (lower h.zero) c.then_some.ensures),
     )
 
 pub returns : goal.returns
@@ -54,6 +54,6 @@ returns c =
     let h = c.loop-j in
     let e : h.j ≡ g.m = omega arith in (
       elements-all g.left g.down g.ld g.m g.lines g.diag g.t g.a.now g.lda (some-ld g.left g.ld g.m g.lines _ (omega (arith, c.requires)) (omega (arith, c.requires)) c.requires.room) g.b.now h.b
-          (subst (λ (j : ℕ). Step g.left g.down g.ld g.m g.lines g.diag (entry_of (op_form g.t) g.a.now g.lda) (front g.m 0) (λ k. front j j (front g.m 0 k)) g.b.now h.b) e h.invariant.2),
-      zero-all g.down g.m g.diag (entry_of (op_form g.t) g.a.now g.lda) h.zero (subst (λ (j : ℕ). LowestZero g.down g.m g.diag (entry_of (op_form g.t) g.a.now g.lda) 0 j h.zero) e h.invariant.3),
+          (subst (λ (j : ℕ). Step g.left g.down g.ld g.m g.lines g.diag (entry_of (op_form g.t) g.a.now g.lda) (front g.m 0) (λ k. front j j (front g.m 0 k)) g.b.now h.b) e h.invariant.1),
+      zero-all g.down g.m g.diag (entry_of (op_form g.t) g.a.now g.lda) h.zero (subst (λ (j : ℕ). LowestZero g.down g.m g.diag (entry_of (op_form g.t) g.a.now g.lda) 0 j h.zero) e h.invariant.2),
     )

@@ -5,7 +5,7 @@ use Prim.Native.Nat.{◌+◌, ◌*◌, ◌<◌}
 use native.Mathlib.Omega.{arith}
 use lib.ListN.{length}
 use Rattle.arrays.proofs.PartLaws.{tail-length}
-use Rattle.arrays.proofs.SearchLaws.{lowest-same}
+use Rattle.arrays.proofs.SearchLaws.{found-same}
 use Rattle.definitions.specs.Element.{by_zero}
 use Rattle.packing.specs.Factor.{entry_of}
 use Rattle.forms.specs.Forms.{op_form}
@@ -48,5 +48,5 @@ returns c =
           ∙ ordered_same false g.down g.ld g.n g.lines _ _ g.s.now (omega (arith, c.requires))
           (λ q l hq hl x.
           packed-is g.left g.down g.n g.x0 g.diag (entry_of (op_form g.t) g.a.now g.lda) _ _ _ (λ i h. diagonal-part g.t g.a.now g.lda g.x0 i) c.matrix_factors.ensures q hq),
-      lowest-same _ _ g.n _ (λ i h. ap (by_zero g.diag) (diagonal-part g.t g.a.now g.lda g.x0 i)) c.solve_groups.ensures.1,
+      found-same _ _ g.n _ (λ i h. ap (by_zero g.diag) (diagonal-part g.t g.a.now g.lda g.x0 i)) c.solve_groups.ensures.1,
     )

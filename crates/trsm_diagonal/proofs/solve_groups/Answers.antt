@@ -1,5 +1,6 @@
 -- `solve_groups` solves a diagonal block group by group: the first j unknowns have their values, u has what their terms take, and `zero` is the lowest index at which
 -- they were divided by zero.
+use Rattle.std.proofs.Common.{rules}
 use mathlib.Core.Path.{◌≡◌, refl, sym, ap, subst, ◌∙◌}
 use mathlib.Core.List.{List}
 use Prim.Native.Nat.{ℕ, ◌+◌, ◌*◌, ◌≤◌, ◌<◌, ◌-◌}
@@ -8,7 +9,7 @@ use lib.Ieee.{Float}
 use borrow.Rule.Slice.PartMut.{put_mid, same_len_mid}
 use Rattle.arrays.proofs.UpdateLaws.{length-update}
 use Rattle.arrays.proofs.PartLaws.{tail-length, column-room, columns-room}
-use Rattle.arrays.proofs.SearchLaws.{lowest-same}
+use Rattle.arrays.proofs.SearchLaws.{found-same, mapped}
 use Rattle.definitions.specs.Element.{by_zero}
 use Rattle.packing.specs.Factor.{entry_of}
 use Rattle.packing.specs.declared.Form.TheVariants.{Plain}
@@ -80,8 +81,8 @@ loop-j-preserved c =
     let y = c.least-y.result in
     let h = c.small-h.result in
     let done = group-done g.left g.down g.ld g.n g.lines g.diag (entry_of Plain g.a.now g.lda) g.v.now g.s.now g.u.now c.requires.n_bound.1 c.requires.room (omega (arith, c.requires), omega (arith, c.requires)) c.loop-j.j y c.loop-j.u c.loop-j.s c.loop-j.invariant.3 c.loop-j.invariant.4 h _ t.some t.within c.least-y.ensures.0 c.least-y.ensures.1 c.block.ensures _ (λ i hi. diagonal-part No g.a.now g.lda y i) _ _ c.solve_unknowns-z.ensures.0 c.solve_unknowns-z.ensures.1 in
-    let found = zero-found g.down g.n g.diag (entry_of Plain g.a.now g.lda) c.loop-j.j h y c.solve_unknowns-z.result t.within c.least-y.ensures.0 c.least-y.ensures.1 (lowest-same _ _ h _ (λ i hi. ap (by_zero g.diag) (diagonal-part No g.a.now g.lda y i)) c.solve_unknowns-z.ensures.2) in
-    let zero = zero_more g.down g.n g.diag (entry_of Plain g.a.now g.lda) c.loop-j.j (c.loop-j.j + h) c.loop-j.zero _ _ _ (omega arith) c.loop-j.invariant.5 found c.lower-zero.ensures in
+    let found = zero-found g.down g.n g.diag (entry_of Plain g.a.now g.lda) c.loop-j.j h y c.solve_unknowns-z.result _ t.within c.least-y.ensures.0 c.least-y.ensures.1 (found-same _ _ h _ (λ i hi. ap (by_zero g.diag) (diagonal-part No g.a.now g.lda y i)) c.solve_unknowns-z.ensures.2) (mapped (λ i. y + i) _ (λ x r p. search rules) _ _ c.map.ensures.cases) in
+    let zero = zero_more g.down g.n g.diag (entry_of Plain g.a.now g.lda) c.loop-j.j (c.loop-j.j + h) c.loop-j.zero _ _ (omega arith) c.loop-j.invariant.5 found c.lower-zero.ensures in
     (t.within, ap length done.0 ∙ length-update _ _, ap length done.1 ∙ length-update _ _, done.0, done.1, zero)
 
 pub returns : goal.returns

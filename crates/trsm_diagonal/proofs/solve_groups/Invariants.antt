@@ -12,7 +12,8 @@ use Rattle.trsm_diagonal.proofs.solve_groups.Given as goal
 abbrev pub invariant-loop-j : goal.invariant-loop-j
 invariant-loop-j l =
     (l.j ≤ l.n) × (length l.s ≡ length l.initial.s) × (length l.u ≡ length l.initial.u)
-    × Solved l.left l.down l.ld l.n l.lines l.diag (entry_of Plain l.a l.lda) l.v l.initial.s l.initial.u l.j l.s × Kept l.left l.down l.ld l.n l.lines l.diag (entry_of Plain l.a l.lda) l.v l.initial.s l.initial.u l.j l.u
+    × Solved l.left l.down l.ld l.n l.lines l.diag (entry_of Plain l.a l.lda) l.v l.initial.s l.initial.u l.j l.s
+    × Kept l.left l.down l.ld l.n l.lines l.diag (entry_of Plain l.a l.lda) l.v l.initial.s l.initial.u l.j l.u
     × LowestZero l.down l.n l.diag (entry_of Plain l.a l.lda) 0 l.j l.zero
 
 abbrev pub decreases-loop-j : goal.decreases-loop-j
