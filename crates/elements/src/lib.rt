@@ -4,13 +4,13 @@
 ghost use Rattle.std.specs.Prelude.{◌≡◌, ℕ, ◌+◌, ◌*◌, ◌<◌, length};
 ghost use Rattle.arrays.specs.Fold.{fold};
 ghost use Rattle.floats.specs.Array.{at};
-ghost use Rattle.packing.specs.Factor.{Indices, index_of, entry_of, along};
-ghost use Rattle.forms.specs.Forms.{op_form};
+ghost use Rattle.packing.specs.Factor.{Indices, along};
+ghost use Rattle.forms.specs.Forms.{op_matrix, Square};
 ghost use Rattle.lines.specs.Lines.{coefficient, Room};
 ghost use Rattle.elements.specs.Sums.{term_of, begun, finished, Summed};
 
-use definitions::Transpose;
-use lines::triangle;
+use forms::Op;
+use lines::{Grid, triangle};
 use packing::factor;
 
 // What the sum of an element starts with: the element's old value, +0.0, or +0.0 and then the element's own term, whose coefficient is handed over.
@@ -27,6 +27,14 @@ pub enum End {
     Sum,
     OwnLast(f64),
     Quotient(f64),
+}
+
+// How the sum of an element is made: what it starts with, the factor alpha of its terms, and how it ends.
+#[derive(Clone, Copy)]
+pub struct Formula {
+    pub start: Start,
+    pub alpha: f64,
+    pub end: End,
 }
 
 // The sums of one element of four lines.
@@ -50,23 +58,23 @@ fn term(left: bool, alpha: f64, w: f64, e: f64, x: f64) -> f64
 }
 
 // What a sum starts with; y is the element's old value.
-fn begin(left: bool, alpha: f64, start: Start, y: f64) -> f64
-    ensures { result ≡ begun left alpha start y }
+fn begin(left: bool, f: Formula, y: f64) -> f64
+    ensures { result ≡ begun left f.alpha f.start y }
 {
-    match start {
+    match f.start {
         Start::Value => y,
         Start::Zero => 0.0,
-        Start::OwnFirst(w) => term(left, alpha, w, 0.0, y),
+        Start::OwnFirst(w) => term(left, f.alpha, w, 0.0, y),
     }
 }
 
 // What the sum e becomes at its end.
-fn finish(left: bool, alpha: f64, end: End, e: f64, y: f64) -> f64
-    ensures { result ≡ finished left alpha end e y }
+fn finish(left: bool, f: Formula, e: f64, y: f64) -> f64
+    ensures { result ≡ finished left f.alpha f.end e y }
 {
-    match end {
+    match f.end {
         End::Sum => e,
-        End::OwnLast(w) => term(left, alpha, w, e, y),
+        End::OwnLast(w) => term(left, f.alpha, w, e, y),
         End::Quotient(d) => e / d,
     }
 }
@@ -96,8 +104,7 @@ fn terms(
     let mut f = s.f;
     let mut g = s.g;
     let mut h = s.h;
-    let mut k = 0;
-    while k < count {
+    for k in 0..count {
         let p = factor::step(down, from, k);
         let w = a[p * sa];
         let x = p * step;
@@ -105,37 +112,27 @@ fn terms(
         f = term(left, alpha, w, f, b[x + across]);
         g = term(left, alpha, w, g, b[x + 2 * across]);
         h = term(left, alpha, w, h, b[x + 3 * across]);
-        k += 1;
     }
-    Lanes {
-        e: e,
-        f: f,
-        g: g,
-        h: h,
-    }
+    Lanes { e, f, g, h }
 }
 
 // Element i of four lines.
 fn four(
-    left: bool,
-    alpha: f64,
+    g: Grid,
+    f: Formula,
     b: &mut [f64],
-    ld: usize,
-    m: usize,
     i: usize,
-    start: Start,
-    end: End,
     a: &[f64],
     sa: usize,
     down: bool,
     from: usize,
     count: usize,
 )
-    requires { Room left ld m 4 (length b.old) × (i < m) × Indices down from count × ((k : ℕ) → k < count → (along down from k < m) × (along down from k * sa < length a.now)) }
-    ensures { Summed left ld m 4 i alpha start end (λ k. at a.now (along down from k * sa)) (along down from) count b.old b.new }
+    requires { Room g.left g.ld g.m 4 (length b.old) × (i < g.m) × Indices down from count × ((k : ℕ) → k < count → (along down from k < g.m) × (along down from k * sa < length a.now)) }
+    ensures { Summed g.left g.ld g.m 4 i f.alpha f.start f.end (λ k. at a.now (along down from k * sa)) (along down from) count b.old b.new }
 {
-    let across = arrays::pick(left, ld, 1);
-    let step = arrays::pick(left, 1, ld);
+    let across = arrays::pick(g.left, g.ld, 1);
+    let step = arrays::pick(g.left, 1, g.ld);
     let x = i * step;
     let y = x + across;
     let z = x + 2 * across;
@@ -145,196 +142,119 @@ fn four(
     let bz = b[z];
     let bw = b[w];
     let s = Lanes {
-        e: begin(left, alpha, start, bx),
-        f: begin(left, alpha, start, by),
-        g: begin(left, alpha, start, bz),
-        h: begin(left, alpha, start, bw),
+        e: begin(g.left, f, bx),
+        f: begin(g.left, f, by),
+        g: begin(g.left, f, bz),
+        h: begin(g.left, f, bw),
     };
-    let r = terms(left, alpha, s, b, across, step, a, sa, down, from, count);
-    b[x] = finish(left, alpha, end, r.e, bx);
-    b[y] = finish(left, alpha, end, r.f, by);
-    b[z] = finish(left, alpha, end, r.g, bz);
-    b[w] = finish(left, alpha, end, r.h, bw);
+    let r = terms(
+        g.left, f.alpha, s, b, across, step, a, sa, down, from, count,
+    );
+    b[x] = finish(g.left, f, r.e, bx);
+    b[y] = finish(g.left, f, r.f, by);
+    b[z] = finish(g.left, f, r.g, bz);
+    b[w] = finish(g.left, f, r.h, bw);
 }
 
 // Element i of one line.
 fn single(
-    left: bool,
-    alpha: f64,
+    g: Grid,
+    f: Formula,
     b: &mut [f64],
-    ld: usize,
-    m: usize,
     i: usize,
-    start: Start,
-    end: End,
     a: &[f64],
     sa: usize,
     down: bool,
     from: usize,
     count: usize,
 )
-    requires { Room left ld m 1 (length b.old) × (i < m) × Indices down from count × ((k : ℕ) → k < count → (along down from k < m) × (along down from k * sa < length a.now)) }
-    ensures { Summed left ld m 1 i alpha start end (λ k. at a.now (along down from k * sa)) (along down from) count b.old b.new }
+    requires { Room g.left g.ld g.m 1 (length b.old) × (i < g.m) × Indices down from count × ((k : ℕ) → k < count → (along down from k < g.m) × (along down from k * sa < length a.now)) }
+    ensures { Summed g.left g.ld g.m 1 i f.alpha f.start f.end (λ k. at a.now (along down from k * sa)) (along down from) count b.old b.new }
 {
-    let step = arrays::pick(left, 1, ld);
+    let step = arrays::pick(g.left, 1, g.ld);
     let x = i * step;
     let bx = b[x];
-    let mut e = begin(left, alpha, start, bx);
-    let mut k = 0;
-    while k < count {
+    let mut e = begin(g.left, f, bx);
+    for k in 0..count {
         let p = factor::step(down, from, k);
-        e = term(left, alpha, a[p * sa], e, b[p * step]);
-        k += 1;
+        e = term(g.left, f.alpha, a[p * sa], e, b[p * step]);
     }
-    b[x] = finish(left, alpha, end, e, bx);
+    b[x] = finish(g.left, f, e, bx);
 }
 
 // Element i of each line, one line after the other.
 fn singles(
-    left: bool,
-    alpha: f64,
+    g: Grid,
+    f: Formula,
     b: &mut [f64],
-    ld: usize,
-    m: usize,
-    lines: usize,
     i: usize,
-    start: Start,
-    end: End,
     a: &[f64],
     sa: usize,
     down: bool,
     from: usize,
     count: usize,
 )
-    requires { Room left ld m lines (length b.old) × (i < m) × Indices down from count × ((k : ℕ) → k < count → (along down from k < m) × (along down from k * sa < length a.now)) }
-    ensures { Summed left ld m lines i alpha start end (λ k. at a.now (along down from k * sa)) (along down from) count b.old b.new }
+    requires { Room g.left g.ld g.m g.lines (length b.old) × (i < g.m) × Indices down from count × ((k : ℕ) → k < count → (along down from k < g.m) × (along down from k * sa < length a.now)) }
+    ensures { Summed g.left g.ld g.m g.lines i f.alpha f.start f.end (λ k. at a.now (along down from k * sa)) (along down from) count b.old b.new }
 {
-    let across = arrays::pick(left, ld, 1);
-    let mut l = 0;
-    while l < lines {
+    let across = arrays::pick(g.left, g.ld, 1);
+    for l in 0..g.lines {
         let x = l * across;
-        single(
-            left,
-            alpha,
-            &mut b[x..],
-            ld,
-            m,
-            i,
-            start,
-            end,
-            a,
-            sa,
-            down,
-            from,
-            count,
-        );
-        l += 1;
+        single(g, f, &mut b[x..], i, a, sa, down, from, count);
     }
 }
 
 // Element i of each line, four lines at a time.
 fn fours(
-    left: bool,
-    alpha: f64,
+    g: Grid,
+    f: Formula,
     b: &mut [f64],
-    ld: usize,
-    m: usize,
-    lines: usize,
     i: usize,
-    start: Start,
-    end: End,
     a: &[f64],
     sa: usize,
     down: bool,
     from: usize,
     count: usize,
 )
-    requires { Room left ld m lines (length b.old) × (i < m) × Indices down from count × ((k : ℕ) → k < count → (along down from k < m) × (along down from k * sa < length a.now)) }
-    ensures { Summed left ld m lines i alpha start end (λ k. at a.now (along down from k * sa)) (along down from) count b.old b.new }
+    requires { Room g.left g.ld g.m g.lines (length b.old) × (i < g.m) × Indices down from count × ((k : ℕ) → k < count → (along down from k < g.m) × (along down from k * sa < length a.now)) }
+    ensures { Summed g.left g.ld g.m g.lines i f.alpha f.start f.end (λ k. at a.now (along down from k * sa)) (along down from) count b.old b.new }
 {
-    let across = arrays::pick(left, ld, 1);
-    let mut l = 0;
-    while l + 4 <= lines {
-        let x = l * across;
-        four(
-            left,
-            alpha,
-            &mut b[x..],
-            ld,
-            m,
-            i,
-            start,
-            end,
-            a,
-            sa,
-            down,
-            from,
-            count,
-        );
-        l += 4;
+    let across = arrays::pick(g.left, g.ld, 1);
+    let quads = g.lines / 4;
+    for q in 0..quads {
+        let x = 4 * q * across;
+        four(g, f, &mut b[x..], i, a, sa, down, from, count);
     }
-    if l == lines {
+    let l = 4 * quads;
+    if l == g.lines {
         return;
     }
     let y = l * across;
-    singles(
-        left,
-        alpha,
-        &mut b[y..],
-        ld,
-        m,
-        lines - l,
-        i,
-        start,
-        end,
-        a,
-        sa,
-        down,
-        from,
-        count,
-    );
+    let rest = Grid {
+        lines: g.lines - l,
+        ..g
+    };
+    singles(rest, f, &mut b[y..], i, a, sa, down, from, count);
 }
 
 // Element i of each line becomes its sum. The terms are those of `count` elements of its line, from `from` on up or down, with op(A) as on the line's side.
 pub fn element(
-    left: bool,
-    alpha: f64,
+    g: Grid,
+    f: Formula,
     b: &mut [f64],
-    ld: usize,
-    m: usize,
-    lines: usize,
     i: usize,
-    start: Start,
-    end: End,
-    t: Transpose,
-    a: &[f64],
-    lda: usize,
+    a: Op,
     down: bool,
     from: usize,
     count: usize,
 )
-    requires room { Room left ld m lines (length b.old) × (i < m) × Indices down from count × ((k : ℕ) → k < count → along down from k < m) }
-    requires by_index { (i j : ℕ) → i < m → j < m → index_of (op_form t) lda i j < length a.now }
-    ensures { Summed left ld m lines i alpha start end (λ k. coefficient left (entry_of (op_form t) a.now lda) i (along down from k)) (along down from) count b.old b.new }
+    requires room { Room g.left g.ld g.m g.lines (length b.old) × (i < g.m) × Indices down from count × ((k : ℕ) → k < count → along down from k < g.m) }
+    requires by_index { Square a g.m }
+    ensures { Summed g.left g.ld g.m g.lines i f.alpha f.start f.end (λ k. coefficient g.left (op_matrix a.entry) i (along down from k)) (along down from) count b.old b.new }
 {
-    let columns = triangle::are_columns(left, t);
-    let row = arrays::pick(columns, lda, 1);
-    let sa = arrays::pick(columns, 1, lda);
+    let columns = triangle::are_columns(g.left, a.t);
+    let row = arrays::pick(columns, a.ld, 1);
+    let sa = arrays::pick(columns, 1, a.ld);
     let x = i * row;
-    fours(
-        left,
-        alpha,
-        b,
-        ld,
-        m,
-        lines,
-        i,
-        start,
-        end,
-        &a[x..],
-        sa,
-        down,
-        from,
-        count,
-    );
+    fours(g, f, b, i, &a.cells[x..], sa, down, from, count);
 }

@@ -10,6 +10,14 @@ ghost use Rattle.forms.specs.Forms.{op_form, mirrored_form};
 use definitions::{Transpose, Triangle};
 use packing::Form;
 
+// op(A), as an array holds A.
+#[derive(Clone, Copy)]
+pub struct Op<'a> {
+    pub t: Transpose,
+    pub cells: &'a [f64],
+    pub ld: usize,
+}
+
 // op(A).
 pub fn op_form(t: Transpose) -> Form
     ensures { result ≡ op_form t }

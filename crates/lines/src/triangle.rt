@@ -1,11 +1,12 @@
 // The coefficients of the terms within a diagonal block: one triangle of op(A), without its diagonal.
 ghost use Rattle.std.specs.Prelude.{◌≡◌, ℕ, ◌+◌, ◌-◌, ◌*◌, ◌≤◌, ◌<◌, length, if◌then◌else◌};
 ghost use Rattle.floats.specs.Array.{at};
-ghost use Rattle.packing.specs.Factor.{index_of, entry_of, turn};
-ghost use Rattle.forms.specs.Forms.{op_form};
+ghost use Rattle.packing.specs.Factor.{index_of, turn};
+ghost use Rattle.forms.specs.Forms.{op_form, op_matrix};
 ghost use Rattle.lines.specs.Lines.{coefficient, by_columns, Beside, RowOf, ColumnOf};
 
 use definitions::Transpose;
+use forms::Op;
 use packing::{factor, runs};
 
 // The first of the elements after element k, or before it.
@@ -54,14 +55,12 @@ fn by_columns(after: bool, down: bool, a: &[f64], lda: usize, x0: usize, n: usiz
     requires { (n ≤ 64) × (x0 + n < 18446744073709551616) × (4096 ≤ length v.old) × ((i p : ℕ) → i < n → p < n → (x0 + i) * lda + (x0 + p) < length a.now) }
     ensures { (length v.new ≡ length v.old) × ((i p : ℕ) → i < n → p < n → Beside after i p → at v.new (i * 64 + turn down n p) ≡ at a.now ((x0 + i) * lda + (x0 + p))) }
 {
-    let mut k = 0;
-    while k < n {
+    for k in 0..n {
         let lo = first_beside(after, k);
         let count = count_beside(after, n, k);
         let from = (x0 + k) * lda + (x0 + lo);
         let to = k * 64;
         in_row(down, n, lo, count, &a[from..], &mut v[to..]);
-        k += 1;
     }
 }
 
@@ -70,14 +69,12 @@ fn by_rows(after: bool, down: bool, a: &[f64], lda: usize, x0: usize, n: usize, 
     requires { (n ≤ 64) × (x0 + n < 18446744073709551616) × (4096 ≤ length v.old) × ((p i : ℕ) → p < n → i < n → (x0 + p) * lda + (x0 + i) < length a.now) }
     ensures { (length v.new ≡ length v.old) × ((i p : ℕ) → i < n → p < n → Beside after p i → at v.new (i * 64 + turn down n p) ≡ at a.now ((x0 + p) * lda + (x0 + i))) }
 {
-    let mut k = 0;
-    while k < n {
+    for k in 0..n {
         let lo = first_beside(after, k);
         let count = count_beside(after, n, k);
         let from = (x0 + k) * lda + (x0 + lo);
         let q = factor::turn_of(down, n, k);
         in_column(q, lo, count, &a[from..], v);
-        k += 1;
     }
 }
 
@@ -93,23 +90,13 @@ pub fn are_columns(left: bool, t: Transpose) -> bool
 
 // The coefficients of the terms of the elements after (or before) each of the n elements from x0 on. Row i of v is for element x0 + i, and its q-th place for the term that
 // comes q-th. Nothing of A on the diagonal or on its other side is read.
-pub fn coefficients(
-    left: bool,
-    after: bool,
-    down: bool,
-    t: Transpose,
-    a: &[f64],
-    lda: usize,
-    x0: usize,
-    n: usize,
-    v: &mut [f64],
-)
-    requires { (n ≤ 64) × (x0 + n < 18446744073709551616) × (4096 ≤ length v.old) × ((i j : ℕ) → i < n → j < n → index_of (op_form t) lda (x0 + i) (x0 + j) < length a.now) }
-    ensures { (length v.new ≡ length v.old) × ((i p : ℕ) → i < n → p < n → Beside after i p → at v.new (i * 64 + turn down n p) ≡ coefficient left (entry_of (op_form t) a.now lda) (x0 + i) (x0 + p)) }
+pub fn coefficients(left: bool, after: bool, down: bool, a: Op, x0: usize, n: usize, v: &mut [f64])
+    requires { (n ≤ 64) × (x0 + n < 18446744073709551616) × (4096 ≤ length v.old) × ((i j : ℕ) → i < n → j < n → index_of (op_form a.t) a.ld (x0 + i) (x0 + j) < length a.cells.now) }
+    ensures { (length v.new ≡ length v.old) × ((i p : ℕ) → i < n → p < n → Beside after i p → at v.new (i * 64 + turn down n p) ≡ coefficient left (op_matrix a.entry) (x0 + i) (x0 + p)) }
 {
-    if are_columns(left, t) {
-        by_columns(after, down, a, lda, x0, n, v);
+    if are_columns(left, a.t) {
+        by_columns(after, down, a.cells, a.ld, x0, n, v);
         return;
     }
-    by_rows(!after, down, a, lda, x0, n, v);
+    by_rows(!after, down, a.cells, a.ld, x0, n, v);
 }

@@ -3,117 +3,22 @@ ghost use Rattle.std.specs.Prelude.{◌≡◌, true, false, ℕ, ◌+◌, ◌≤
 ghost use Rattle.arrays.specs.Update.{update};
 ghost use Rattle.arrays.specs.Fold.{fold};
 ghost use Rattle.floats.specs.Array.{at};
-ghost use Rattle.floats.specs.Operations.{1f};
-ghost use Rattle.definitions.specs.Storage.{with_diagonal};
-ghost use Rattle.packing.specs.Factor.{index_of, entry_of};
-ghost use Rattle.forms.specs.Forms.{op_form};
+ghost use Rattle.forms.specs.Forms.{op_matrix, Square};
 ghost use Rattle.lines.specs.Lines.{cell, grid, within, line_term, Room};
-ghost use Rattle.trmm_diagonal.specs.Terms.{term_from};
+ghost use Rattle.trmm_diagonal.specs.Terms.{term_from, matrix_of};
 ghost use Rattle.trmm.specs.Sum.{sum_of};
 
-use definitions::{Diagonal, Transpose};
+use forms::Op;
+use lines::Grid;
 use packing::{Form, factor};
+use trmm_diagonal::Multiplier;
 
-// Side L: all terms of the `count` elements from lo on for the n elements from p0 on, whose sums are in z.
-fn beside_left(
-    alpha: f64,
-    t: Transpose,
-    a: &[f64],
-    lda: usize,
-    b: &[f64],
-    ld: usize,
-    m: usize,
-    lines: usize,
-    p0: usize,
-    n: usize,
-    lo: usize,
-    count: usize,
-    z: &mut [f64],
-    r: usize,
-)
-    requires n_nonzero { (0 < n) × (n ≤ 64) × (p0 + n ≤ m) × (0 < count) × (lo + count ≤ m) × (0 < lines) × (lines ≤ 64) × (0 < r) × (r ≤ 64) × (4096 ≤ length z.old) }
-    requires room { Room true ld m lines (length b.now) }
-    requires by_index { (i j : ℕ) → i < m → j < m → index_of (op_form t) lda i j < length a.now }
-    ensures { z.new ≡ update (grid true 64 n lines (λ q l e. fold (λ e i. line_term true alpha (entry_of (op_form t) a.now lda) (p0 + q) e (lo + i) (at b.now (cell true ld (lo + i) l))) count e)) z.old }
-{
-    let f = forms::op_form(t);
-    let from = factor::place(f, lda, p0, lo);
-    kernel::multiply(
-        z,
-        64,
-        n,
-        lines,
-        count,
-        f,
-        &a[from..],
-        lda,
-        0,
-        Form::Plain,
-        &b[lo..],
-        ld,
-        0,
-        alpha,
-        false,
-        r,
-    );
-}
-
-// Side R: the same, where a line is a row.
-fn beside_right(
-    alpha: f64,
-    t: Transpose,
-    a: &[f64],
-    lda: usize,
-    b: &[f64],
-    ld: usize,
-    m: usize,
-    lines: usize,
-    p0: usize,
-    n: usize,
-    lo: usize,
-    count: usize,
-    z: &mut [f64],
-    r: usize,
-)
-    requires n_nonzero { (0 < n) × (n ≤ 64) × (p0 + n ≤ m) × (0 < count) × (lo + count ≤ m) × (0 < lines) × (lines ≤ 64) × (0 < r) × (r ≤ 64) × (4096 ≤ length z.old) }
-    requires room { Room false ld m lines (length b.now) }
-    requires by_index { (i j : ℕ) → i < m → j < m → index_of (op_form t) lda i j < length a.now }
-    ensures { z.new ≡ update (grid false 64 n lines (λ q l e. fold (λ e i. line_term false alpha (entry_of (op_form t) a.now lda) (p0 + q) e (lo + i) (at b.now (cell false ld (lo + i) l))) count e)) z.old }
-{
-    let f = forms::op_form(t);
-    let from = factor::place(f, lda, lo, p0);
-    let x = lo * ld;
-    kernel::multiply(
-        z,
-        64,
-        lines,
-        n,
-        count,
-        Form::Plain,
-        &b[x..],
-        ld,
-        0,
-        f,
-        &a[from..],
-        lda,
-        0,
-        alpha,
-        false,
-        r,
-    );
-}
-
-// The same on either side, also of no elements.
+// All terms of the `count` elements from lo on, which may be none, for the n elements from p0 on, whose sums are in z.
 fn beside(
-    left: bool,
+    g: Grid,
     alpha: f64,
-    t: Transpose,
-    a: &[f64],
-    lda: usize,
+    a: Op,
     b: &[f64],
-    ld: usize,
-    m: usize,
-    lines: usize,
     p0: usize,
     n: usize,
     lo: usize,
@@ -121,72 +26,74 @@ fn beside(
     z: &mut [f64],
     r: usize,
 )
-    requires n_nonzero { (0 < n) × (n ≤ 64) × (p0 + n ≤ m) × (lo + count ≤ m) × (0 < lines) × (lines ≤ 64) × (0 < r) × (r ≤ 64) × (4096 ≤ length z.old) }
-    requires room { Room left ld m lines (length b.now) }
-    requires by_index { (i j : ℕ) → i < m → j < m → index_of (op_form t) lda i j < length a.now }
-    ensures { z.new ≡ update (grid left 64 n lines (λ q l e. fold (λ e i. line_term left alpha (entry_of (op_form t) a.now lda) (p0 + q) e (lo + i) (at b.now (cell left ld (lo + i) l))) count e)) z.old }
+    requires n_nonzero { (0 < n) × (n ≤ 64) × (p0 + n ≤ g.m) × (lo + count ≤ g.m) × (0 < g.lines) × (g.lines ≤ 64) × (0 < r) × (r ≤ 64) × (4096 ≤ length z.old) }
+    requires room { Room g.left g.ld g.m g.lines (length b.now) }
+    requires by_index { Square a g.m }
+    ensures { z.new ≡ update (grid g.left 64 n g.lines (λ q l e. fold (λ e i. line_term g.left alpha (op_matrix a.entry) (p0 + q) e (lo + i) (at b.now (cell g.left g.ld (lo + i) l))) count e)) z.old }
 {
     if count == 0 {
         return;
     }
-    if left {
-        beside_left(alpha, t, a, lda, b, ld, m, lines, p0, n, lo, count, z, r);
-        return;
-    }
-    beside_right(alpha, t, a, lda, b, ld, m, lines, p0, n, lo, count, z, r);
-}
-
-// All terms of the n elements from p0 on, whose sums are in z: those of the block itself and those on one side of it, in order.
-fn sums(
-    left: bool,
-    after: bool,
-    diag: Diagonal,
-    alpha: f64,
-    t: Transpose,
-    a: &[f64],
-    lda: usize,
-    b: &[f64],
-    ld: usize,
-    m: usize,
-    lines: usize,
-    p0: usize,
-    n: usize,
-    z: &mut [f64],
-    r: usize,
-)
-    requires n_nonzero { (0 < n) × (n ≤ 64) × (p0 + n ≤ m) × (0 < lines) × (lines ≤ 64) × (0 < r) × (r ≤ 64) × (4096 ≤ length z.old) }
-    requires room { Room left ld m lines (length b.now) }
-    requires by_index { (i j : ℕ) → i < m → j < m → index_of (op_form t) lda i j < length a.now }
-    ensures { z.new ≡ update (grid left 64 n lines (λ q l e. fold (term_from left after alpha (with_diagonal 1f diag (entry_of (op_form t) a.now lda)) 0 (λ p. at b.now (cell left ld p l)) (p0 + q)) m e)) z.old }
-{
-    if after {
-        trmm_diagonal::diagonal(
-            left, after, diag, alpha, t, a, lda, b, ld, m, lines, p0, n, z,
-        );
-        let lo = p0 + n;
-        beside(
-            left,
-            alpha,
-            t,
-            a,
-            lda,
-            b,
-            ld,
-            m,
-            lines,
-            p0,
-            n,
-            lo,
-            m - lo,
+    let f = forms::op_form(a.t);
+    if g.left {
+        let from = factor::place(f, a.ld, p0, lo);
+        kernel::multiply(
             z,
+            64,
+            n,
+            g.lines,
+            count,
+            f,
+            &a.cells[from..],
+            a.ld,
+            0,
+            Form::Plain,
+            &b[lo..],
+            g.ld,
+            0,
+            alpha,
+            false,
             r,
         );
         return;
     }
-    beside(left, alpha, t, a, lda, b, ld, m, lines, p0, n, 0, p0, z, r);
-    trmm_diagonal::diagonal(
-        left, after, diag, alpha, t, a, lda, b, ld, m, lines, p0, n, z,
+    let from = factor::place(f, a.ld, lo, p0);
+    let x = lo * g.ld;
+    kernel::multiply(
+        z,
+        64,
+        g.lines,
+        n,
+        count,
+        Form::Plain,
+        &b[x..],
+        g.ld,
+        0,
+        f,
+        &a.cells[from..],
+        a.ld,
+        0,
+        alpha,
+        false,
+        r,
     );
+}
+
+// All terms of the n elements from p0 on, whose sums are in z: those of the block itself and those on one side of it, in order.
+fn sums(g: Grid, by: Multiplier, b: &[f64], p0: usize, n: usize, z: &mut [f64], r: usize)
+    requires n_nonzero { (0 < n) × (n ≤ 64) × (p0 + n ≤ g.m) × (0 < g.lines) × (g.lines ≤ 64) × (0 < r) × (r ≤ 64) × (4096 ≤ length z.old) }
+    requires room { Room g.left g.ld g.m g.lines (length b.now) }
+    requires by_index { Square by.a g.m }
+    ensures { z.new ≡ update (grid g.left 64 n g.lines (λ q l e. fold (term_from g.left by.entry.after by.entry.alpha (matrix_of by.entry) 0 (λ p. at b.now (cell g.left g.ld p l)) (p0 + q)) g.m e)) z.old }
+{
+    if by.after {
+        let lo = p0 + n;
+        trmm_diagonal::diagonal(g, by, b, p0, n, z);
+        beside(g, by.alpha, by.a, b, p0, n, lo, g.m - lo, z, r);
+        return;
+    }
+    beside(g, by.alpha, by.a, b, p0, n, 0, p0, z, r);
+    trmm_diagonal::diagonal(g, by, b, p0, n, z);
 }
 
 // Whether no element outside the n elements from p0 on has a term in their sums.
@@ -198,37 +105,18 @@ fn is_alone(after: bool, m: usize, p0: usize, n: usize) -> bool
 }
 
 // The n elements from p0 on of each line become their sums over all m elements. If the block is alone, these are made across at once.
-pub fn block(
-    left: bool,
-    after: bool,
-    diag: Diagonal,
-    alpha: f64,
-    t: Transpose,
-    a: &[f64],
-    lda: usize,
-    b: &mut [f64],
-    ld: usize,
-    m: usize,
-    lines: usize,
-    p0: usize,
-    n: usize,
-    r: usize,
-)
-    requires n_nonzero { (0 < n) × (n ≤ 64) × (p0 + n ≤ m) × (0 < lines) × (lines ≤ 64) × (0 < r) × (r ≤ 64) }
-    requires room { Room left ld m lines (length b.old) }
-    requires by_index { (i j : ℕ) → i < m → j < m → index_of (op_form t) lda i j < length a.now }
-    ensures { b.new ≡ update (grid left ld m lines (λ q l e. if within p0 n q then sum_of left after alpha (with_diagonal 1f diag (entry_of (op_form t) a.now lda)) m (λ p. at b.old (cell left ld p l)) q else e)) b.old }
+pub fn block(g: Grid, by: Multiplier, b: &mut [f64], p0: usize, n: usize, r: usize)
+    requires n_nonzero { (0 < n) × (n ≤ 64) × (p0 + n ≤ g.m) × (0 < g.lines) × (g.lines ≤ 64) × (0 < r) × (r ≤ 64) }
+    requires room { Room g.left g.ld g.m g.lines (length b.old) }
+    requires by_index { Square by.a g.m }
+    ensures { b.new ≡ update (grid g.left g.ld g.m g.lines (λ q l e. if within p0 n q then sum_of g.left by.entry.after by.entry.alpha (matrix_of by.entry) g.m (λ p. at b.old (cell g.left g.ld p l)) q else e)) b.old }
 {
     let mut z = [0.0f64; 4096];
-    if is_alone(after, m, p0, n) {
-        trmm_diagonal::across(
-            left, after, diag, alpha, t, a, lda, b, ld, m, lines, p0, n, &mut z,
-        );
-        lines::put(left, false, b, ld, m, lines, p0, n, &z);
+    if is_alone(by.after, g.m, p0, n) {
+        trmm_diagonal::across(g, by, b, p0, n, &mut z);
+        lines::put(g, false, b, p0, n, &z);
         return;
     }
-    sums(
-        left, after, diag, alpha, t, a, lda, b, ld, m, lines, p0, n, &mut z, r,
-    );
-    lines::put(left, left, b, ld, m, lines, p0, n, &z);
+    sums(g, by, b, p0, n, &mut z, r);
+    lines::put(g, g.left, b, p0, n, &z);
 }

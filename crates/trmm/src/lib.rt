@@ -12,18 +12,21 @@ ghost use Rattle.definitions.specs.Call.{by_side, extent};
 ghost use Rattle.definitions.specs.Element.{StripOf};
 ghost use Rattle.definitions.specs.declared.Routine.TheVariants.{Trmm};
 ghost use Rattle.definitions.proofs.Fits.{Fits};
-ghost use Rattle.packing.specs.Factor.{index_of, entry_of};
-ghost use Rattle.forms.specs.Forms.{op_form};
+ghost use Rattle.forms.specs.Forms.{op_matrix, Square};
 ghost use Rattle.lines.specs.Lines.{cell, grid, within, Room};
 ghost use Rattle.elements.specs.declared.Start.TheVariants.{Zero, OwnFirst};
 ghost use Rattle.elements.specs.declared.End.TheVariants.{Sum, OwnLast};
+ghost use Rattle.trmm_diagonal.specs.Terms.{matrix_of};
 ghost use Rattle.trmm.specs.Sum.{sum_of, line_value};
 
 pub mod block;
 
 use blocks::pass;
-use definitions::{Call, Diagonal, Scalar, Side, Transpose};
-use elements::{End, Start};
+use definitions::{Call, Diagonal, Scalar, Side};
+use elements::{End, Formula, Start};
+use forms::Op;
+use lines::Grid;
+use trmm_diagonal::Multiplier;
 
 // The first element of the next block of n, when k of m elements are done: from the first on if an element's terms lie after it, else from the last back.
 fn next_block(after: bool, m: usize, k: usize, n: usize) -> usize
@@ -34,33 +37,16 @@ fn next_block(after: bool, m: usize, k: usize, n: usize) -> usize
 }
 
 // Each element of each line becomes the sum of its terms: block after block.
-fn sum_lines(
-    left: bool,
-    after: bool,
-    diag: Diagonal,
-    alpha: f64,
-    t: Transpose,
-    a: &[f64],
-    lda: usize,
-    b: &mut [f64],
-    ld: usize,
-    m: usize,
-    lines: usize,
-    r: usize,
-)
-    requires m_nonzero { (0 < m) × (0 < lines) × (lines ≤ 64) × (0 < r) × (r ≤ 64) }
-    requires room { Room left ld m lines (length b.old) }
-    requires by_index { (i j : ℕ) → i < m → j < m → index_of (op_form t) lda i j < length a.now }
-    ensures { b.new ≡ update (grid left ld m lines (λ q l _. sum_of left after alpha (with_diagonal 1f diag (entry_of (op_form t) a.now lda)) m (λ p. at b.old (cell left ld p l)) q)) b.old }
+fn sum_lines(g: Grid, by: Multiplier, b: &mut [f64], r: usize)
+    requires m_nonzero { (0 < g.m) × (0 < g.lines) × (g.lines ≤ 64) × (0 < r) × (r ≤ 64) }
+    requires room { Room g.left g.ld g.m g.lines (length b.old) }
+    requires by_index { Square by.a g.m }
+    ensures { b.new ≡ update (grid g.left g.ld g.m g.lines (λ q l _. sum_of g.left by.entry.after by.entry.alpha (matrix_of by.entry) g.m (λ p. at b.old (cell g.left g.ld p l)) q)) b.old }
 {
-    let mut k = 0;
-    while k < m {
-        let n = arrays::smaller(r, m - k);
-        let p0 = next_block(after, m, k, n);
-        block::block(
-            left, after, diag, alpha, t, a, lda, b, ld, m, lines, p0, n, r,
-        );
-        k += n;
+    for k in (0..g.m).step_by(r) {
+        let n = r.min(g.m - k);
+        let p0 = next_block(by.after, g.m, k, n);
+        block::block(g, by, b, p0, n, r);
     }
 }
 
@@ -83,117 +69,79 @@ fn end_of(after: bool, w: f64) -> End
 }
 
 // Element i of each line becomes the sum of its terms, straight from the arrays.
-fn sum_element(
-    left: bool,
-    after: bool,
-    diag: Diagonal,
-    alpha: f64,
-    t: Transpose,
-    a: &[f64],
-    lda: usize,
-    b: &mut [f64],
-    ld: usize,
-    m: usize,
-    lines: usize,
-    i: usize,
-)
-    requires i_lt_m { i < m }
-    requires room { Room left ld m lines (length b.old) }
-    requires by_index { (i j : ℕ) → i < m → j < m → index_of (op_form t) lda i j < length a.now }
-    ensures { b.new ≡ update (grid left ld m lines (λ q l e. if within i 1 q then sum_of left after alpha (with_diagonal 1f diag (entry_of (op_form t) a.now lda)) m (λ p. at b.old (cell left ld p l)) q else e)) b.old }
+fn sum_element(g: Grid, by: Multiplier, b: &mut [f64], i: usize)
+    requires i_lt_m { i < g.m }
+    requires room { Room g.left g.ld g.m g.lines (length b.old) }
+    requires by_index { Square by.a g.m }
+    ensures { b.new ≡ update (grid g.left g.ld g.m g.lines (λ q l e. if within i 1 q then sum_of g.left by.entry.after by.entry.alpha (matrix_of by.entry) g.m (λ p. at b.old (cell g.left g.ld p l)) q else e)) b.old }
 {
-    let w = trmm_diagonal::pivot(diag, a, lda, i);
-    let lo = arrays::pick(after, i + 1, 0);
-    let count = arrays::pick(after, m - 1 - i, i);
-    elements::element(
-        left,
-        alpha,
-        b,
-        ld,
-        m,
-        lines,
-        i,
-        start_of(after, w),
-        end_of(after, w),
-        t,
-        a,
-        lda,
-        false,
-        lo,
-        count,
-    );
+    let w = trmm_diagonal::pivot(by.diag, by.a, i);
+    let lo = arrays::pick(by.after, i + 1, 0);
+    let count = arrays::pick(by.after, g.m - 1 - i, i);
+    let f = Formula {
+        start: start_of(by.after, w),
+        alpha: by.alpha,
+        end: end_of(by.after, w),
+    };
+    elements::element(g, f, b, i, by.a, false, lo, count);
 }
 
 // Each element of each line becomes the sum of its terms, one after the other, without buffers: for tiny calls.
-fn sum_elements(
-    left: bool,
-    after: bool,
-    diag: Diagonal,
-    alpha: f64,
-    t: Transpose,
-    a: &[f64],
-    lda: usize,
-    b: &mut [f64],
-    ld: usize,
-    m: usize,
-    lines: usize,
-)
-    requires m_nonzero { (0 < m) × (0 < lines) }
-    requires room { Room left ld m lines (length b.old) }
-    requires by_index { (i j : ℕ) → i < m → j < m → index_of (op_form t) lda i j < length a.now }
-    ensures { b.new ≡ update (grid left ld m lines (λ q l _. sum_of left after alpha (with_diagonal 1f diag (entry_of (op_form t) a.now lda)) m (λ p. at b.old (cell left ld p l)) q)) b.old }
+fn sum_elements(g: Grid, by: Multiplier, b: &mut [f64])
+    requires m_nonzero { (0 < g.m) × (0 < g.lines) }
+    requires room { Room g.left g.ld g.m g.lines (length b.old) }
+    requires by_index { Square by.a g.m }
+    ensures { b.new ≡ update (grid g.left g.ld g.m g.lines (λ q l _. sum_of g.left by.entry.after by.entry.alpha (matrix_of by.entry) g.m (λ p. at b.old (cell g.left g.ld p l)) q)) b.old }
 {
-    let mut k = 0;
-    while k < m {
-        let i = next_block(after, m, k, 1);
-        sum_element(left, after, diag, alpha, t, a, lda, b, ld, m, lines, i);
-        k += 1;
+    for k in 0..g.m {
+        let i = next_block(by.after, g.m, k, 1);
+        sum_element(g, by, b, i);
     }
 }
 
 // +0.0 in each element of each line.
-fn clear_lines(left: bool, b: &mut [f64], ld: usize, m: usize, lines: usize)
-    requires m_nonzero { (0 < m) × (0 < lines) }
-    requires room { Room left ld m lines (length b.old) }
-    ensures { b.new ≡ update (grid left ld m lines (λ q l _. 0f)) b.old }
+fn clear_lines(g: Grid, b: &mut [f64])
+    requires m_nonzero { (0 < g.m) × (0 < g.lines) }
+    requires room { Room g.left g.ld g.m g.lines (length b.old) }
+    ensures { b.new ≡ update (grid g.left g.ld g.m g.lines (λ q l _. 0f)) b.old }
 {
-    if left {
-        pass::clear(b, ld, m, lines);
+    if g.left {
+        pass::clear(b, g.ld, g.m, g.lines);
         return;
     }
-    pass::clear(b, ld, lines, m);
+    pass::clear(b, g.ld, g.lines, g.m);
 }
 
 // Each element of each line gets its value: +0.0 if alpha is zero, and A is not read then.
 fn multiply_lines(
-    left: bool,
+    g: Grid,
     after: bool,
     diag: Diagonal,
     alpha: Scalar,
-    t: Transpose,
-    a: &[f64],
-    lda: usize,
+    a: Op,
     b: &mut [f64],
-    ld: usize,
-    m: usize,
-    lines: usize,
     r: usize,
 )
-    requires m_nonzero { (0 < m) × (0 < lines) × (lines ≤ 64) × (0 < r) × (r ≤ 64) }
-    requires room { Room left ld m lines (length b.old) }
-    requires j_in_bounds { is_zero alpha ≡ false → (i j : ℕ) → i < m → j < m → index_of (op_form t) lda i j < length a.now }
-    ensures { b.new ≡ update (grid left ld m lines (λ q l _. line_value left after alpha (with_diagonal 1f diag (entry_of (op_form t) a.now lda)) m (λ p. at b.old (cell left ld p l)) q)) b.old }
+    requires m_nonzero { (0 < g.m) × (0 < g.lines) × (g.lines ≤ 64) × (0 < r) × (r ≤ 64) }
+    requires room { Room g.left g.ld g.m g.lines (length b.old) }
+    requires j_in_bounds { is_zero alpha ≡ false → Square a g.m }
+    ensures { b.new ≡ update (grid g.left g.ld g.m g.lines (λ q l _. line_value g.left after alpha (with_diagonal 1f diag (op_matrix a.entry)) g.m (λ p. at b.old (cell g.left g.ld p l)) q)) b.old }
 {
     if alpha.is_zero() {
-        clear_lines(left, b, ld, m, lines);
+        clear_lines(g, b);
         return;
     }
-    let f = alpha.factor();
-    if direct::tiny(m, lines, m) {
-        sum_elements(left, after, diag, f, t, a, lda, b, ld, m, lines);
+    let by = Multiplier {
+        a,
+        diag,
+        after,
+        alpha: alpha.factor(),
+    };
+    if direct::tiny(g.m, g.lines, g.m) {
+        sum_elements(g, by, b);
         return;
     }
-    sum_lines(left, after, diag, f, t, a, lda, b, ld, m, lines, r);
+    sum_lines(g, by, b, r);
 }
 
 // TRMM's strip of `lines` columns (side L) or rows (side R) from the one with number `from` on: b is the part of B that starts there, and blocks are of r elements.
@@ -202,18 +150,31 @@ pub fn trmm_strip(call: Call, a: &[f64], b: &mut [f64], from: usize, lines: usiz
     requires lines_nonzero { (0 < lines) × (lines ≤ 64) × (from + lines ≤ extent call) × (0 < r) × (r ≤ 64) }
     ensures { (b₀ : List Float) → StripOf call a.now b₀ from (from + lines) (by_side call.side (from * call.ldb) from) b.old b.new }
 {
-    let side = call.side;
-    let uplo = call.uplo;
-    let t = call.transa;
-    let diag = call.diag;
-    let alpha = call.alpha;
-    let m = call.m as usize;
-    let n = call.n as usize;
-    let lda = call.lda as usize;
-    let ldb = call.ldb as usize;
-    let low = forms::op_lower(t, uplo);
-    match side {
-        Side::Left => multiply_lines(true, !low, diag, alpha, t, a, lda, b, ldb, m, lines, r),
-        Side::Right => multiply_lines(false, low, diag, alpha, t, a, lda, b, ldb, n, lines, r),
+    let op = Op {
+        t: call.transa,
+        cells: a,
+        ld: call.lda as usize,
+    };
+    let low = forms::op_lower(call.transa, call.uplo);
+    let ld = call.ldb as usize;
+    match call.side {
+        Side::Left => {
+            let columns = Grid {
+                left: true,
+                ld,
+                m: call.m as usize,
+                lines,
+            };
+            multiply_lines(columns, !low, call.diag, call.alpha, op, b, r);
+        }
+        Side::Right => {
+            let rows = Grid {
+                left: false,
+                ld,
+                m: call.n as usize,
+                lines,
+            };
+            multiply_lines(rows, low, call.diag, call.alpha, op, b, r);
+        }
     }
 }

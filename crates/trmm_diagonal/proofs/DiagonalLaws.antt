@@ -71,42 +71,42 @@ unfolding coefficient
 coefficient-own true T p = refl
 coefficient-own false T p = refl
 
-module _ (diag : Diagonal) (a : List Float) (lda p₀ : ℕ) where
+module _ (diag : Diagonal) (M : Matrix) (p₀ : ℕ) where
   -- the entries of the diagonal, one by one
-  pub no-pivots : (v : List Float) → Pivots diag a lda p₀ 0 v v
-  no-pivots v = record { same_length = refl; own = λ i h t. let z : ⊥ = omega arith in absurd z; others = λ i p h z. refl }
+  pub no-pivots : (v : List Float) → Pivots diag M p₀ 0 v v
+  no-pivots v = record { same_length = refl; own = λ i h. let z : ⊥ = omega arith in absurd z; others = λ i p h z. refl }
 
-  pub pivot-more : (v₀ v : List Float) (k : ℕ) (d : Float) → k < 64 → 4096 ≤ length v₀ → Pivots diag a lda p₀ k v₀ v
-      → ((t : Transpose) → d ≡ with_diagonal 1f diag (entry_of (op_form t) a lda) (p₀ + k) (p₀ + k))
-      → Pivots diag a lda p₀ (k + 1) v₀ (set v (k * 64 + k) d)
+  pub pivot-more : (v₀ v : List Float) (k : ℕ) (d : Float) → k < 64 → 4096 ≤ length v₀ → Pivots diag M p₀ k v₀ v
+      → d ≡ with_diagonal 1f diag M (p₀ + k) (p₀ + k)
+      → Pivots diag M p₀ (k + 1) v₀ (set v (k * 64 + k) d)
   pivot-more v₀ v k d few room s ed =
       record {
         same_length = length-set v (k * 64 + k) d ∙ s.same_length;
-        own = λ i h t.
+        own = λ i h.
             ⊎_elim
-            (λ (z : i < k). get_or-set_other v (k * 64 + k) (i * 64 + i) d nan (λ y. omega arith) ∙ s.own i z t)
+            (λ (z : i < k). get_or-set_other v (k * 64 + k) (i * 64 + i) d nan (λ y. omega arith) ∙ s.own i z)
             (λ z.
             let e : k ≡ i = omega arith in
-            subst (λ (j : ℕ). at (set v (k * 64 + k) d) (j * 64 + j) ≡ with_diagonal 1f diag (entry_of (op_form t) a lda) (p₀ + j) (p₀ + j)) e
-            (get_or-set_same v (k * 64 + k) d nan (omega (arith, s.same_length)) ∙ ed t))
+            subst (λ (j : ℕ). at (set v (k * 64 + k) d) (j * 64 + j) ≡ with_diagonal 1f diag M (p₀ + j) (p₀ + j)) e
+            (get_or-set_same v (k * 64 + k) d nan (omega (arith, s.same_length)) ∙ ed))
             (lt-or-ge i k);
         others = λ i p h z. get_or-set_other v (k * 64 + k) (i * 64 + p) d nan (λ y. z (omega arith)) ∙ s.others i p h z;
       }
 
   -- all of the diagonal, in the place of the coefficients' own
-  pub triangle-held : (left after : Bool) (t : Transpose) (n : ℕ) (v₀ v : List Float) → n ≤ 64
-      → ((i p : ℕ) → i < n → p < n → Beside after i p → at v₀ (i * 64 + turn false n p) ≡ coefficient left (entry_of (op_form t) a lda) (p₀ + i) (p₀ + p))
-      → Pivots diag a lda p₀ n v₀ v
-      → (i p : ℕ) → i < n → p < n → has after i p ≡ true → at v (i * 64 + p) ≡ coefficient left (with_diagonal 1f diag (entry_of (op_form t) a lda)) (p₀ + i) (p₀ + p)
+  pub triangle-held : (left after : Bool) (n : ℕ) (v₀ v : List Float) → n ≤ 64
+      → ((i p : ℕ) → i < n → p < n → Beside after i p → at v₀ (i * 64 + turn false n p) ≡ coefficient left M (p₀ + i) (p₀ + p))
+      → Pivots diag M p₀ n v₀ v
+      → (i p : ℕ) → i < n → p < n → has after i p ≡ true → at v (i * 64 + p) ≡ coefficient left (with_diagonal 1f diag M) (p₀ + i) (p₀ + p)
   unfolding turn
-  triangle-held left after t n v₀ v few coefficients s i p hi hp h =
+  triangle-held left after n v₀ v few coefficients s i p hi hp h =
       ⊎_elim
       (λ (z : i ≡ p).
-      subst (λ (k : ℕ). at v (i * 64 + k) ≡ coefficient left (with_diagonal 1f diag (entry_of (op_form t) a lda)) (p₀ + i) (p₀ + k)) z
-      (s.own i hi t ∙ coefficient-own left (with_diagonal 1f diag (entry_of (op_form t) a lda)) (p₀ + i)))
+      subst (λ (k : ℕ). at v (i * 64 + k) ≡ coefficient left (with_diagonal 1f diag M) (p₀ + i) (p₀ + k)) z
+      (s.own i hi ∙ coefficient-own left (with_diagonal 1f diag M) (p₀ + i)))
       (λ z.
       s.others i p (omega arith) z ∙ coefficients i p hi hp (has-beside after i p h z)
-      ∙ coefficient-beside left diag (entry_of (op_form t) a lda) (p₀ + i) (p₀ + p) (λ y. z (omega arith)))
+      ∙ coefficient-beside left diag M (p₀ + i) (p₀ + p) (λ y. z (omega arith)))
       (same_or_not i p)
 
 -- ---- the terms

@@ -8,23 +8,33 @@ ghost use Rattle.arrays.specs.Fold.{fold};
 ghost use Rattle.floats.specs.Array.{at};
 ghost use Rattle.floats.specs.Operations.{1f};
 ghost use Rattle.definitions.specs.Storage.{with_diagonal};
-ghost use Rattle.definitions.specs.declared.Transpose.{Transpose as TransposeOf};
-ghost use Rattle.packing.specs.Factor.{index_of, entry_of};
-ghost use Rattle.forms.specs.Forms.{op_form};
+ghost use Rattle.packing.specs.Factor.{index_of};
+ghost use Rattle.forms.specs.Forms.{op_form, op_matrix, Square};
 ghost use Rattle.lines.specs.Lines.{cell, grid, within, coefficient, Room};
-ghost use Rattle.trmm_diagonal.specs.Terms.{has, held_terms, term_from, Pivots};
+ghost use Rattle.trmm_diagonal.specs.Terms.{has, held_terms, term_from, matrix_of, Pivots};
 
 use blocks::{block, pass};
-use definitions::{Diagonal, Transpose};
+use definitions::Diagonal;
+use forms::Op;
+use lines::Grid;
+
+// What TRMM multiplies a line by: alpha times op(A), of which one triangle is stored. If `after`, an element has the terms from its own on, else those up to its own.
+#[derive(Clone, Copy)]
+pub struct Multiplier<'a> {
+    pub a: Op<'a>,
+    pub diag: Diagonal,
+    pub after: bool,
+    pub alpha: f64,
+}
 
 // Entry (p, p) of op(A).
-pub fn pivot(diag: Diagonal, a: &[f64], lda: usize, p: usize) -> f64
-    requires { p * lda + p < length a.now }
-    ensures { (t : TransposeOf) → result ≡ with_diagonal 1f diag (entry_of (op_form t) a.now lda) p p }
+pub fn pivot(diag: Diagonal, a: Op, p: usize) -> f64
+    requires { p * a.ld + p < length a.cells.now }
+    ensures { result ≡ with_diagonal 1f diag (op_matrix a.entry) p p }
 {
     match diag {
         Diagonal::Unit => 1.0,
-        Diagonal::Nonunit => a[p * lda + p],
+        Diagonal::Nonunit => a.cells[p * a.ld + p],
     }
 }
 
@@ -48,15 +58,13 @@ fn walk(after: bool, s: &mut [f64], lines: usize, n: usize, u: &[f64], v: &[f64]
     requires { (n ≤ 64) × (lines ≤ 64) × (n * 64 ≤ length s.old) × (n * 64 ≤ length u.now) × (n * 64 + n ≤ length v.now + 64) }
     ensures { s.new ≡ update (grid false 64 n lines (λ q l e. held_terms after n u.now v.now q l e)) s.old }
 {
-    let mut j = 0;
-    while j < n {
+    for j in 0..n {
         let lo = first_term(after, j);
         let count = terms(after, n, j);
         let to = j * 64;
         let x = lo * 64;
         let y = j * 64 + lo;
         block::column(&mut s[to..], lines, count, &u[x..], &v[y..]);
-        j += 1;
     }
 }
 
@@ -88,7 +96,7 @@ fn group(
     walk(after, &mut s[x..], lines, h, &u[x..], &v[y..]);
 }
 
-// The terms of n elements for these elements themselves, group after group.
+// The terms of n elements for these elements themselves, group after group. A `while`: `block::small` says how far each goes.
 fn groups(after: bool, s: &mut [f64], lines: usize, n: usize, u: &[f64], v: &[f64])
     requires { (n ≤ 64) × (lines ≤ 64) × (4096 ≤ length s.old) × (4096 ≤ length u.now) × (4096 ≤ length v.now) }
     ensures { s.new ≡ update (grid false 64 n lines (λ q l e. held_terms after n u.now v.now q l e)) s.old }
@@ -102,127 +110,58 @@ fn groups(after: bool, s: &mut [f64], lines: usize, n: usize, u: &[f64], v: &[f6
 }
 
 // The entries of op(A)'s diagonal from (p0, p0) on, n of them, to their places in v.
-fn pivots(diag: Diagonal, a: &[f64], lda: usize, p0: usize, n: usize, v: &mut [f64])
-    requires { (n ≤ 64) × (p0 + n < 18446744073709551616) × (4096 ≤ length v.old) × ((i : ℕ) → i < n → (p0 + i) * lda + (p0 + i) < length a.now) }
-    ensures { Pivots diag a.now lda p0 n v.old v.new }
+fn pivots(diag: Diagonal, a: Op, p0: usize, n: usize, v: &mut [f64])
+    requires { (n ≤ 64) × (p0 + n < 18446744073709551616) × (4096 ≤ length v.old) × ((i : ℕ) → i < n → (p0 + i) * a.ld + (p0 + i) < length a.cells.now) }
+    ensures { Pivots diag (op_matrix a.entry) p0 n v.old v.new }
 {
-    let mut i = 0;
-    while i < n {
-        v[i * 64 + i] = pivot(diag, a, lda, p0 + i);
-        i += 1;
+    for i in 0..n {
+        v[i * 64 + i] = pivot(diag, a, p0 + i);
     }
 }
 
 // The coefficients of the terms of the n elements from p0 on for these elements themselves, to v: row i is for element p0 + i.
-fn triangle(
-    left: bool,
-    after: bool,
-    diag: Diagonal,
-    t: Transpose,
-    a: &[f64],
-    lda: usize,
-    p0: usize,
-    n: usize,
-    v: &mut [f64],
-)
-    requires { (n ≤ 64) × (p0 + n < 18446744073709551616) × (4096 ≤ length v.old) × ((i j : ℕ) → i < n → j < n → index_of (op_form t) lda (p0 + i) (p0 + j) < length a.now) }
-    ensures { (length v.new ≡ length v.old) × ((i p : ℕ) → i < n → p < n → has after i p ≡ true → at v.new (i * 64 + p) ≡ coefficient left (with_diagonal 1f diag (entry_of (op_form t) a.now lda)) (p0 + i) (p0 + p)) }
+fn triangle(left: bool, by: Multiplier, p0: usize, n: usize, v: &mut [f64])
+    requires { (n ≤ 64) × (p0 + n < 18446744073709551616) × (4096 ≤ length v.old) × ((i j : ℕ) → i < n → j < n → index_of (op_form by.a.t) by.a.ld (p0 + i) (p0 + j) < length by.a.cells.now) }
+    ensures { (length v.new ≡ length v.old) × ((i p : ℕ) → i < n → p < n → has by.entry.after i p ≡ true → at v.new (i * 64 + p) ≡ coefficient left (matrix_of by.entry) (p0 + i) (p0 + p)) }
 {
-    lines::triangle::coefficients(left, after, false, t, a, lda, p0, n, v);
-    pivots(diag, a, lda, p0, n, v);
+    lines::triangle::coefficients(left, by.after, false, by.a, p0, n, v);
+    pivots(by.diag, by.a, p0, n, v);
 }
 
 // All terms of the n elements from p0 on for these elements themselves, whose sums stand across in s.
-pub fn across(
-    left: bool,
-    after: bool,
-    diag: Diagonal,
-    alpha: f64,
-    t: Transpose,
-    a: &[f64],
-    lda: usize,
-    b: &[f64],
-    ld: usize,
-    m: usize,
-    lines: usize,
-    p0: usize,
-    n: usize,
-    s: &mut [f64],
-)
-    requires n_nonzero { (0 < n) × (n ≤ 64) × (p0 + n ≤ m) × (0 < lines) × (lines ≤ 64) × (4096 ≤ length s.old) }
-    requires room { Room left ld m lines (length b.now) }
-    requires by_index { (i j : ℕ) → i < m → j < m → index_of (op_form t) lda i j < length a.now }
-    ensures { s.new ≡ update (grid false 64 n lines (λ q l e. fold (term_from left after alpha (with_diagonal 1f diag (entry_of (op_form t) a.now lda)) p0 (λ k. at b.now (cell left ld (p0 + k) l)) (p0 + q)) n e)) s.old }
+pub fn across(g: Grid, by: Multiplier, b: &[f64], p0: usize, n: usize, s: &mut [f64])
+    requires n_nonzero { (0 < n) × (n ≤ 64) × (p0 + n ≤ g.m) × (0 < g.lines) × (g.lines ≤ 64) × (4096 ≤ length s.old) }
+    requires room { Room g.left g.ld g.m g.lines (length b.now) }
+    requires by_index { Square by.a g.m }
+    ensures { s.new ≡ update (grid false 64 n g.lines (λ q l e. fold (term_from g.left by.entry.after by.entry.alpha (matrix_of by.entry) p0 (λ k. at b.now (cell g.left g.ld (p0 + k) l)) (p0 + q)) n e)) s.old }
 {
     let mut x = [0.0f64; 4096];
     let mut v = [0.0f64; 4096];
-    lines::take(left, false, &mut x, b, ld, m, lines, p0, n);
-    triangle(left, after, diag, t, a, lda, p0, n, &mut v);
-    if left {
-        pass::scale(&mut x, 64, lines, n, alpha);
-        groups(after, s, lines, n, &x, &v);
+    lines::take(g, false, &mut x, b, p0, n);
+    triangle(g.left, by, p0, n, &mut v);
+    if g.left {
+        pass::scale(&mut x, 64, g.lines, n, by.alpha);
+        groups(by.after, s, g.lines, n, &x, &v);
         return;
     }
-    pass::scale(&mut v, 64, n, n, alpha);
-    groups(after, s, lines, n, &x, &v);
+    pass::scale(&mut v, 64, n, n, by.alpha);
+    groups(by.after, s, g.lines, n, &x, &v);
 }
 
-// Side L: the same where the sums stand in z by columns, turned across and back.
-fn turned(
-    after: bool,
-    diag: Diagonal,
-    alpha: f64,
-    t: Transpose,
-    a: &[f64],
-    lda: usize,
-    b: &[f64],
-    ld: usize,
-    m: usize,
-    lines: usize,
-    p0: usize,
-    n: usize,
-    z: &mut [f64],
-)
-    requires n_nonzero { (0 < n) × (n ≤ 64) × (p0 + n ≤ m) × (0 < lines) × (lines ≤ 64) × (4096 ≤ length z.old) }
-    requires room { Room true ld m lines (length b.now) }
-    requires by_index { (i j : ℕ) → i < m → j < m → index_of (op_form t) lda i j < length a.now }
-    ensures { z.new ≡ update (grid true 64 n lines (λ q l e. fold (term_from true after alpha (with_diagonal 1f diag (entry_of (op_form t) a.now lda)) p0 (λ k. at b.now (cell true ld (p0 + k) l)) (p0 + q)) n e)) z.old }
+// The same where z holds the sums as the side does: for side L they are turned across and back.
+pub fn diagonal(g: Grid, by: Multiplier, b: &[f64], p0: usize, n: usize, z: &mut [f64])
+    requires n_nonzero { (0 < n) × (n ≤ 64) × (p0 + n ≤ g.m) × (0 < g.lines) × (g.lines ≤ 64) × (4096 ≤ length z.old) }
+    requires room { Room g.left g.ld g.m g.lines (length b.now) }
+    requires by_index { Square by.a g.m }
+    ensures { z.new ≡ update (grid g.left 64 n g.lines (λ q l e. fold (term_from g.left by.entry.after by.entry.alpha (matrix_of by.entry) p0 (λ k. at b.now (cell g.left g.ld (p0 + k) l)) (p0 + q)) n e)) z.old }
 {
-    let mut s = [0.0f64; 4096];
-    lines::take(true, false, &mut s, z, 64, n, lines, 0, n);
-    across(
-        true, after, diag, alpha, t, a, lda, b, ld, m, lines, p0, n, &mut s,
-    );
-    lines::put(true, false, z, 64, n, lines, 0, n, &s);
-}
-
-// The same on either side, where z holds its lines as the side does.
-pub fn diagonal(
-    left: bool,
-    after: bool,
-    diag: Diagonal,
-    alpha: f64,
-    t: Transpose,
-    a: &[f64],
-    lda: usize,
-    b: &[f64],
-    ld: usize,
-    m: usize,
-    lines: usize,
-    p0: usize,
-    n: usize,
-    z: &mut [f64],
-)
-    requires n_nonzero { (0 < n) × (n ≤ 64) × (p0 + n ≤ m) × (0 < lines) × (lines ≤ 64) × (4096 ≤ length z.old) }
-    requires room { Room left ld m lines (length b.now) }
-    requires by_index { (i j : ℕ) → i < m → j < m → index_of (op_form t) lda i j < length a.now }
-    ensures { z.new ≡ update (grid left 64 n lines (λ q l e. fold (term_from left after alpha (with_diagonal 1f diag (entry_of (op_form t) a.now lda)) p0 (λ k. at b.now (cell left ld (p0 + k) l)) (p0 + q)) n e)) z.old }
-{
-    if left {
-        turned(after, diag, alpha, t, a, lda, b, ld, m, lines, p0, n, z);
+    if g.left {
+        let sums = Grid { ld: 64, m: n, ..g };
+        let mut s = [0.0f64; 4096];
+        lines::take(sums, false, &mut s, z, 0, n);
+        across(g, by, b, p0, n, &mut s);
+        lines::put(sums, false, z, 0, n, &s);
         return;
     }
-    across(
-        left, after, diag, alpha, t, a, lda, b, ld, m, lines, p0, n, z,
-    );
+    across(g, by, b, p0, n, z);
 }

@@ -9,20 +9,20 @@ use Rattle.elements.proofs.element.Goals as goal
 use Rattle.elements.proofs.element.Goals.{After-pick-sa}
 
 -- where the coefficients stand, and that they are within A
-stand : (c : After-pick-sa) → let g = c.args in Strides g.left g.t g.lda c.pick-row.result c.pick-sa.result
+stand : (c : After-pick-sa) → let args = c.args in Strides args.g.left args.a.t args.a.ld c.pick-row.result c.pick-sa.result
 stand c =
-    let g = c.args in strides g.left g.t g.lda c.are_columns-columns.ensures c.pick-row.ensures c.pick-sa.ensures
+    let args = c.args in strides args.g.left args.a.t args.a.ld c.are_columns-columns.ensures c.pick-row.ensures c.pick-sa.ensures
 
-inside : (c : After-pick-sa) → (p : ℕ) → let g = c.args in p < g.m → g.i * c.pick-row.result + p * c.pick-sa.result < length g.a.now
+inside : (c : After-pick-sa) → (p : ℕ) → let args = c.args in p < args.g.m → args.i * c.pick-row.result + p * c.pick-sa.result < length args.a.cells.now
 inside c p =
-    let stand : let g = c.args in Strides g.left g.t g.lda c.pick-row.result c.pick-sa.result = let g = c.args in strides g.left g.t g.lda c.are_columns-columns.ensures c.pick-row.ensures c.pick-sa.ensures in
-    let g = c.args in
-    coefficient-inside g.left g.t _ _ _ _ p _ _ (stand) c.requires.by_index c.requires.room.1
+    let stand : let args = c.args in Strides args.g.left args.a.t args.a.ld c.pick-row.result c.pick-sa.result = let args = c.args in strides args.g.left args.a.t args.a.ld c.are_columns-columns.ensures c.pick-row.ensures c.pick-sa.ensures in
+    let args = c.args in
+    coefficient-inside args.g.left args.a.t _ _ _ _ p _ _ (stand) c.requires.by_index c.requires.room.1
 
-first : (c : After-pick-sa) → let g = c.args in g.i * c.pick-row.result < length g.a.now
+first : (c : After-pick-sa) → let args = c.args in args.i * c.pick-row.result < length args.a.cells.now
 first c =
-    let stand : let g = c.args in Strides g.left g.t g.lda c.pick-row.result c.pick-sa.result = let g = c.args in strides g.left g.t g.lda c.are_columns-columns.ensures c.pick-row.ensures c.pick-sa.ensures in
-    let inside : (p : ℕ) → let g = c.args in p < g.m → g.i * c.pick-row.result + p * c.pick-sa.result < length g.a.now = λ p. let g = c.args in coefficient-inside g.left g.t _ _ _ _ p _ _ (stand) c.requires.by_index c.requires.room.1 in
+    let stand : let args = c.args in Strides args.g.left args.a.t args.a.ld c.pick-row.result c.pick-sa.result = let args = c.args in strides args.g.left args.a.t args.a.ld c.are_columns-columns.ensures c.pick-row.ensures c.pick-sa.ensures in
+    let inside : (p : ℕ) → let args = c.args in p < args.g.m → args.i * c.pick-row.result + p * c.pick-sa.result < length args.a.cells.now = λ p. let args = c.args in coefficient-inside args.g.left args.a.t _ _ _ _ p _ _ (stand) c.requires.by_index c.requires.room.1 in
     omega (arith, inside 0 (omega (arith, c.requires.room.1)))
 
 pub overflow_mul-x : goal.overflow_mul-x
@@ -39,9 +39,9 @@ slice_bounds-fours-start c = omega (arith, first (goal.at.slice_bounds-fours-sta
 
 pub fours-requires : goal.fours-requires
 fours-requires c = let p = c.requires.room in
-    let g = c.args in
-    (p.0, p.1, p.2, λ k h. (p.3 k h, omega (arith, inside (goal.at.fours-requires c).After-pick-sa (along g.down g.from k) (p.3 k h), tail-length (g.i * c.pick-row.result) g.a.now)))
+    let args = c.args in
+    (p.0, p.1, p.2, λ k h. (p.3 k h, omega (arith, inside (goal.at.fours-requires c).After-pick-sa (along args.down args.from k) (p.3 k h), tail-length (args.i * c.pick-row.result) args.a.cells.now)))
 
 pub returns : goal.returns
-returns c = let g = c.args in
-    summed_at g.left g.t g.a.now g.lda _ _ g.ld g.m g.lines g.i g.alpha g.start g.end (along g.down g.from) g.count g.b.now _ (stand (goal.at.returns c).After-pick-sa) c.fours.ensures
+returns c = let args = c.args in
+    summed_at args.g.left args.a.t args.a.cells.now args.a.ld _ _ args.g.ld args.g.m args.g.lines args.i args.f.alpha args.f.start args.f.end (along args.down args.from) args.count args.b.now _ (stand (goal.at.returns c).After-pick-sa) c.fours.ensures

@@ -9,14 +9,14 @@ use Rattle.elements.proofs.four.Goals as goal
 use Rattle.elements.proofs.four.Goals.{After-pick-step}
 
 -- element q of the four lines is in the array
-inside : (c : After-pick-step) → (q : ℕ) → q < c.args.m → q * c.pick-step.result + 3 * c.pick-across.result < length c.args.b.now
+inside : (c : After-pick-step) → (q : ℕ) → q < c.args.g.m → q * c.pick-step.result + 3 * c.pick-across.result < length c.args.b.now
 inside c q h =
-    strides-inside c.args.left c.args.ld c.args.m 4 (length c.args.b.now) q 3 c.pick-across.ensures c.pick-step.ensures c.requires.0 h (omega arith)
+    strides-inside c.args.g.left c.args.g.ld c.args.g.m 4 (length c.args.b.now) q 3 c.pick-across.ensures c.pick-step.ensures c.requires.0 h (omega arith)
 
 -- element i is, and its place in memory is a number of the machine
 here : (c : After-pick-step) → (c.args.i * c.pick-step.result + 3 * c.pick-across.result < length c.args.b.now) × (length c.args.b.now * 8 < 18446744073709551616)
 here c =
-    let inside : (q : ℕ) → q < c.args.m → q * c.pick-step.result + 3 * c.pick-across.result < length c.args.b.now = λ q h. strides-inside c.args.left c.args.ld c.args.m 4 (length c.args.b.now) q 3 c.pick-across.ensures c.pick-step.ensures c.requires.0 h (omega arith) in
+    let inside : (q : ℕ) → q < c.args.g.m → q * c.pick-step.result + 3 * c.pick-across.result < length c.args.b.now = λ q h. strides-inside c.args.g.left c.args.g.ld c.args.g.m 4 (length c.args.b.now) q 3 c.pick-across.ensures c.pick-step.ensures c.requires.0 h (omega arith) in
     (inside c.args.i c.requires.1, omega arith)
 
 pub terms-r-requires : goal.terms-r-requires
@@ -30,13 +30,13 @@ bounds-b-w-2 c = simp length-set (omega (arith, here (goal.at.bounds-b-w-2 c).Af
 
 pub returns : goal.returns
 returns c =
-    let g = c.args in
-    let place = along g.down g.from in
+    let args = c.args in
+    let place = along args.down args.from in
     let across = c.pick-across.result in
     let step = c.pick-step.result in
-    let more = line-more g.left g.ld g.m g.i g.alpha g.start g.end (λ k. at g.a.now (place k * g.sa)) place g.count 4 in
-    more 3 g.b.now _ across step (g.i * step + 3 * across) (λ k. place k * step + 3 * across) _ _ _ c.requires.0 c.requires.1 (omega arith) c.pick-across.ensures c.pick-step.ensures (omega arith) (λ k. omega arith) c.begin-4.ensures c.terms-r.ensures.3 c.finish-4.ensures
-    (more 2 g.b.now _ across step (g.i * step + 2 * across) (λ k. place k * step + 2 * across) _ _ _ c.requires.0 c.requires.1 (omega arith) c.pick-across.ensures c.pick-step.ensures (omega arith) (λ k. omega arith) c.begin-3.ensures c.terms-r.ensures.2 c.finish-3.ensures
-    (more 1 g.b.now _ across step (g.i * step + across) (λ k. place k * step + across) _ _ _ c.requires.0 c.requires.1 (omega arith) c.pick-across.ensures c.pick-step.ensures (omega arith) (λ k. omega arith) c.begin-2.ensures c.terms-r.ensures.1 c.finish-2.ensures
-    (more 0 g.b.now g.b.now across step (g.i * step) (λ k. place k * step) _ _ _ c.requires.0 c.requires.1 (omega arith) c.pick-across.ensures c.pick-step.ensures (omega arith) (λ k. omega arith) c.begin.ensures c.terms-r.ensures.0 c.finish.ensures
+    let more = line-more args.g.left args.g.ld args.g.m args.i args.f.alpha args.f.start args.f.end (λ k. at args.a.now (place k * args.sa)) place args.count 4 in
+    more 3 args.b.now _ across step (args.i * step + 3 * across) (λ k. place k * step + 3 * across) _ _ _ c.requires.0 c.requires.1 (omega arith) c.pick-across.ensures c.pick-step.ensures (omega arith) (λ k. omega arith) c.begin-4.ensures c.terms-r.ensures.3 c.finish-4.ensures
+    (more 2 args.b.now _ across step (args.i * step + 2 * across) (λ k. place k * step + 2 * across) _ _ _ c.requires.0 c.requires.1 (omega arith) c.pick-across.ensures c.pick-step.ensures (omega arith) (λ k. omega arith) c.begin-3.ensures c.terms-r.ensures.2 c.finish-3.ensures
+    (more 1 args.b.now _ across step (args.i * step + across) (λ k. place k * step + across) _ _ _ c.requires.0 c.requires.1 (omega arith) c.pick-across.ensures c.pick-step.ensures (omega arith) (λ k. omega arith) c.begin-2.ensures c.terms-r.ensures.1 c.finish-2.ensures
+    (more 0 args.b.now args.b.now across step (args.i * step) (λ k. place k * step) _ _ _ c.requires.0 c.requires.1 (omega arith) c.pick-across.ensures c.pick-step.ensures (omega arith) (λ k. omega arith) c.begin.ensures c.terms-r.ensures.0 c.finish.ensures
     (no_lines _ _ _ _ _ _ _ _ _ _ _))))

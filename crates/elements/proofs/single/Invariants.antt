@@ -1,6 +1,6 @@
 -- `single` meets its contract: the first k terms are done.
 use mathlib.Core.Path.{◌≡◌}
-use Prim.Native.Nat.{◌-◌, ◌*◌, ◌≤◌}
+use Prim.Native.Nat.{◌*◌}
 use Rattle.arrays.specs.Fold.{fold}
 use Rattle.floats.specs.Array.{at}
 use Rattle.packing.specs.Factor.{along}
@@ -8,8 +8,4 @@ use Rattle.elements.specs.Sums.{term_of}
 use Rattle.elements.proofs.single.Given as goal
 
 abbrev pub invariant-loop-k : goal.invariant-loop-k
-invariant-loop-k l = (l.k ≤ l.count)
-    × (l.e ≡ fold (λ e' k'. term_of l.left l.alpha (at l.a (along l.down l.from k' * l.sa)) e' (at l.b (along l.down l.from k' * l.step))) l.k l.initial.e)
-
-abbrev pub decreases-loop-k : goal.decreases-loop-k
-decreases-loop-k l = l.count - l.k
+invariant-loop-k l = (l.e ≡ fold (λ e' k'. term_of l.g.left l.f.alpha (at l.a (along l.down l.from k' * l.sa)) e' (at l.b (along l.down l.from k' * l.step))) l.k l.initial.e)

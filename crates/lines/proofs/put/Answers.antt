@@ -9,40 +9,40 @@ use Rattle.lines.proofs.put.Goals as goal
 
 pub lines-requires : goal.lines-requires
 lines-requires c =
-    let room = rw c.if-left.true at c.requires.room in
-    let rows = column-room c.args.ld c.requires.n_nonzero.2 in (
+    let room = rw c.if-g.true at c.requires.room in
+    let rows = column-room c.args.g.ld c.requires.n_nonzero.2 in (
       omega (arith, room, c.requires.n_nonzero),
       omega (arith, room, c.requires.n_nonzero),
       simp tail-length (omega (arith, room, rows, c.requires.n_nonzero)),
       upward _ _ (omega (arith, c.requires.n_nonzero)),
       upward _ _ (omega (arith, c.requires.n_nonzero)),
-      λ q l hq hl. left-inside c.args.side (c.line_form-f.ensures ∙ ap (line_form c.args.side) c.if-left.true) 64 64 64 _ 0 q l (omega (arith, c.requires.n_nonzero)) (omega (arith, c.requires.n_nonzero)) (buffer-room c.args.side _ c.requires.n_nonzero.5),
+      λ q l hq hl. left-inside c.args.side (c.line_form-f.ensures ∙ ap (line_form c.args.side) c.if-g.true) 64 64 64 _ 0 q l (omega (arith, c.requires.n_nonzero)) (omega (arith, c.requires.n_nonzero)) (buffer-room c.args.side _ c.requires.n_nonzero.5),
     )
 
-pub returns-then-left : goal.returns-then-left
-returns-then-left c =
-    let g = c.args in
-    let room = rw c.if-left.true at c.requires.room in
-    let rows = column-room g.ld c.requires.n_nonzero.2 in
-    rw c.if-left.true (put-left g.side (c.line_form-f.ensures ∙ ap (line_form g.side) c.if-left.true) g.ld g.m g.lines g.x0 g.n g.x.now g.b.now _ (omega (arith, room, c.requires.n_nonzero)) room c.requires.n_nonzero.4 (omega (arith, room, rows, c.requires.n_nonzero)) c.lines.ensures)
+pub returns-then-g : goal.returns-then-g
+returns-then-g c =
+    let p = c.args in
+    let room = rw c.if-g.true at c.requires.room in
+    let rows = column-room p.g.ld c.requires.n_nonzero.2 in
+    rw c.if-g.true (put-left p.side (c.line_form-f.ensures ∙ ap (line_form p.side) c.if-g.true) p.g.ld p.g.m p.g.lines p.x0 p.n p.x.now p.b.now _ (omega (arith, room, c.requires.n_nonzero)) room c.requires.n_nonzero.4 (omega (arith, room, rows, c.requires.n_nonzero)) c.lines.ensures)
 
 pub lines-requires-2 : goal.lines-requires-2
 lines-requires-2 c =
-    let room = rw c.if-left.false at c.requires.room in
-    let before = columns-room c.args.ld c.args.x0 c.args.n c.requires.n_nonzero.4 in
-    let first = column-room c.args.ld c.requires.n_nonzero.0 in (
+    let room = rw c.if-g.false at c.requires.room in
+    let before = columns-room c.args.g.ld c.args.x0 c.args.n c.requires.n_nonzero.4 in
+    let first = column-room c.args.g.ld c.requires.n_nonzero.0 in (
       omega (arith, room, c.requires.n_nonzero),
       omega (arith, room, c.requires.n_nonzero),
       simp tail-length (omega (arith, room, before, first, c.requires.n_nonzero)),
       upward _ _ (omega (arith, c.requires.n_nonzero)),
       upward _ _ (omega (arith, c.requires.n_nonzero)),
-      λ l q hl hq. right-inside c.args.side (c.line_form-f.ensures ∙ ap (line_form c.args.side) c.if-left.false) 64 64 64 _ 0 q l (omega (arith, c.requires.n_nonzero)) (omega (arith, c.requires.n_nonzero)) (buffer-room c.args.side _ c.requires.n_nonzero.5),
+      λ l q hl hq. right-inside c.args.side (c.line_form-f.ensures ∙ ap (line_form c.args.side) c.if-g.false) 64 64 64 _ 0 q l (omega (arith, c.requires.n_nonzero)) (omega (arith, c.requires.n_nonzero)) (buffer-room c.args.side _ c.requires.n_nonzero.5),
     )
 
 pub returns : goal.returns
 returns c =
-    let g = c.args in
-    let room = rw c.if-left.false at c.requires.room in
-    let before = columns-room g.ld g.x0 g.n c.requires.n_nonzero.4 in
-    let first = column-room g.ld c.requires.n_nonzero.0 in
-    rw c.if-left.false (put_right g.side (c.line_form-f.ensures ∙ ap (line_form g.side) c.if-left.false) g.ld g.m g.lines g.x0 g.n _ g.x.now g.b.now _ (omega (arith, room, c.requires.n_nonzero)) room c.requires.n_nonzero.4 refl (omega (arith, room, before, first, c.requires.n_nonzero)) c.lines-2.ensures)
+    let p = c.args in
+    let room = rw c.if-g.false at c.requires.room in
+    let before = columns-room p.g.ld p.x0 p.n c.requires.n_nonzero.4 in
+    let first = column-room p.g.ld c.requires.n_nonzero.0 in
+    rw c.if-g.false (put_right p.side (c.line_form-f.ensures ∙ ap (line_form p.side) c.if-g.false) p.g.ld p.g.m p.g.lines p.x0 p.n _ p.x.now p.b.now _ (omega (arith, room, c.requires.n_nonzero)) room c.requires.n_nonzero.4 refl (omega (arith, room, before, first, c.requires.n_nonzero)) c.lines-2.ensures)

@@ -14,11 +14,11 @@ pack-requires c = (
   omega arith,
   upward _ _ (omega (arith, c.ranges)),
   upward _ _ (omega arith),
-  λ q l hq hl. left-inside c.args.left (c.line_form-f.ensures ∙ ap (line_form c.args.left) c.if-side.true) _ _ _ _ _ q l (omega arith) hl c.requires.room,
+  λ q l hq hl. left-inside c.args.g.left (c.line_form-f.ensures ∙ ap (line_form c.args.g.left) c.if-side.true) _ _ _ _ _ q l (omega arith) hl c.requires.room,
 )
 
 pub returns-then-side : goal.returns-then-side
-returns-then-side c = rw c.if-side.true (c.pack.ensures ∙ taken-left c.args.left (c.line_form-f.ensures ∙ ap (line_form c.args.left) c.if-side.true) _ _ _ _ _ _)
+returns-then-side c = rw c.if-side.true (c.pack.ensures ∙ taken-left c.args.g.left (c.line_form-f.ensures ∙ ap (line_form c.args.g.left) c.if-side.true) _ _ _ _ _ _)
 
 pub pack-requires-2 : goal.pack-requires-2
 pack-requires-2 c = (
@@ -28,8 +28,8 @@ pack-requires-2 c = (
   omega arith,
   upward _ _ (omega arith),
   upward _ _ (omega (arith, c.ranges)),
-  λ l q hl hq. right-inside c.args.left (c.line_form-f.ensures ∙ ap (line_form c.args.left) c.if-side.false) _ _ _ _ _ q l (omega arith) hl c.requires.room,
+  λ l q hl hq. right-inside c.args.g.left (c.line_form-f.ensures ∙ ap (line_form c.args.g.left) c.if-side.false) _ _ _ _ _ q l (omega arith) hl c.requires.room,
 )
 
 pub returns : goal.returns
-returns c = rw c.if-side.false (c.pack-2.ensures ∙ taken-right c.args.left (c.line_form-f.ensures ∙ ap (line_form c.args.left) c.if-side.false) _ _ _ _ _ _)
+returns c = rw c.if-side.false (c.pack-2.ensures ∙ taken-right c.args.g.left (c.line_form-f.ensures ∙ ap (line_form c.args.g.left) c.if-side.false) _ _ _ _ _ _)

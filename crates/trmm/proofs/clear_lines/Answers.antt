@@ -2,10 +2,10 @@
 use Rattle.lines.specs.Lines.{grid}
 use Rattle.trmm.proofs.clear_lines.Goals as goal
 
-pub returns-then-left : goal.returns-then-left
+pub returns-then-g : goal.returns-then-g
 unfolding grid
-returns-then-left c = rw c.if-left.true c.clear.ensures
+returns-then-g c = rw c.if-g.true c.clear.ensures
 
 pub returns : goal.returns
 unfolding grid
-returns c = rw c.if-left.false c.clear-2.ensures
+returns c = rw c.if-g.false c.clear-2.ensures

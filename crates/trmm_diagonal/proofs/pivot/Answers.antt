@@ -5,7 +5,7 @@ use Rattle.trmm_diagonal.proofs.pivot.Goals as goal
 
 pub returns-in-Unit : goal.returns-in-Unit
 unfolding of_bits
-returns-in-Unit c = λ t. unit-entry _ _ _ c.in-Unit.is
+returns-in-Unit c = unit-entry _ _ _ c.in-Unit.is
 
 pub returns-in-Nonunit : goal.returns-in-Nonunit
-returns-in-Nonunit c = λ t. stored-entry _ t _ _ _ c.in-Nonunit.is
+returns-in-Nonunit c = stored-entry _ _ _ _ _ c.in-Nonunit.is

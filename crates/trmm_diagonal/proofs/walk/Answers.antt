@@ -1,7 +1,4 @@
 -- `walk` meets its contract: the elements before j are done.
-use mathlib.Core.Path.{refl, ap, ◌∙◌}
-use lib.ListN.{length}
-use Rattle.arrays.proofs.UpdateLaws.{length-update}
 use Rattle.trmm_diagonal.proofs.WalkLaws.{Span, span_of, walk_none, walk_more}
 use native.Mathlib.Omega.{arith}
 use Rattle.trmm_diagonal.proofs.walk.Goals as goal
@@ -13,9 +10,8 @@ span c =
     span_of _ _ _ _ _ c.loop-j-test.true c.first_term-lo.ensures c.terms-count.ensures
 
 pub loop-j-init : goal.loop-j-init
-loop-j-init c = (omega arith, refl, walk_none _ _ _ _ _ _)
+loop-j-init c = walk_none _ _ _ _ _ _
 
 pub loop-j-preserved : goal.loop-j-preserved
 loop-j-preserved c = let s = span (goal.at.loop-j-preserved c).After-terms-count in
-    let e = walk_more _ _ _ _ _ _ _ _ _ _ _ (omega arith) (omega arith) s c.loop-j.invariant.2 c.column.ensures in
-    (omega arith, ap length e ∙ length-update _ _, e)
+    walk_more _ _ _ _ _ _ _ _ _ _ _ (omega arith) (omega arith) s c.loop-j.invariant c.column.ensures

@@ -1,9 +1,9 @@
 -- `triangle::by_columns` meets its contract: the rows below k of the buffer are done.
 use Prim.Native.Nat.{◌+◌, ◌-◌, ◌*◌, ◌≤◌}
-use mathlib.Core.Path.{refl, ◌∙◌}
+use mathlib.Core.Path.{refl}
 use lib.ListN.{length}
 use Rattle.arrays.proofs.PartLaws.{tail-length}
-use Rattle.lines.proofs.TriangleLaws.{run_room, row-length, row_more}
+use Rattle.lines.proofs.TriangleLaws.{run_room, row_more}
 use native.Mathlib.Omega.{arith}
 use Rattle.lines.proofs.triangle.by_columns.Goals as goal
 use Rattle.lines.proofs.triangle.by_columns.Goals.{After-count_beside-count}
@@ -24,8 +24,5 @@ in_row-requires c = simp tail-length (omega (arith, room (goal.at.in_row-require
 
 pub loop-k-preserved : goal.loop-k-preserved
 loop-k-preserved c =
-    let g = c.args in (
-      omega arith,
-      row-length g.n _ _ _ _ c.loop-k.v _ c.in_row.ensures ∙ c.loop-k.invariant.1,
-      row_more g.after g.down g.a.now g.lda g.x0 g.n c.loop-k.k _ _ _ (omega arith) (omega arith) refl c.first_beside-lo.ensures c.count_beside-count.ensures _ c.loop-k.v _ refl (omega arith) c.loop-k.invariant.2 c.in_row.ensures,
-    )
+    let g = c.args in
+    row_more g.after g.down g.a.now g.lda g.x0 g.n c.loop-k.k _ _ _ (omega arith) (omega arith) refl c.first_beside-lo.ensures c.count_beside-count.ensures _ c.loop-k.v _ refl (omega arith) c.loop-k.invariant c.in_row.ensures

@@ -1,6 +1,6 @@
 -- `triangle::by_rows` meets its contract: the places of the terms below k are done.
 use Prim.Native.Nat.{◌+◌, ◌-◌, ◌*◌, ◌≤◌}
-use mathlib.Core.Path.{refl, ◌∙◌}
+use mathlib.Core.Path.{refl}
 use lib.ListN.{length}
 use Rattle.arrays.proofs.PartLaws.{tail-length}
 use Rattle.lines.proofs.TriangleLaws.{run_room, place-more}
@@ -24,8 +24,5 @@ in_column-requires c = simp tail-length (omega (arith, room (goal.at.in_column-r
 
 pub loop-k-preserved : goal.loop-k-preserved
 loop-k-preserved c =
-    let g = c.args in (
-      omega arith,
-      c.in_column.ensures.same_length ∙ c.loop-k.invariant.1,
-      place-more g.after g.down g.a.now g.lda g.x0 g.n c.loop-k.k _ _ _ (omega arith) (omega arith) refl c.first_beside-lo.ensures c.count_beside-count.ensures _ c.loop-k.v _ c.turn_of-q.ensures.0 c.loop-k.invariant.2 c.in_column.ensures,
-    )
+    let g = c.args in
+    place-more g.after g.down g.a.now g.lda g.x0 g.n c.loop-k.k _ _ _ (omega arith) (omega arith) refl c.first_beside-lo.ensures c.count_beside-count.ensures _ c.loop-k.v _ c.turn_of-q.ensures.0 c.loop-k.invariant c.in_column.ensures

@@ -1,12 +1,6 @@
 -- `triangle::by_rows` meets its contract: the places of the terms below k are done.
-use Prim.Native.Nat.{◌-◌, ◌≤◌}
-use mathlib.Core.Path.{◌≡◌}
-use lib.ListN.{length}
 use Rattle.lines.proofs.TriangleLaws.{Places}
 use Rattle.lines.proofs.triangle.by_rows.Given as goal
 
 abbrev pub invariant-loop-k : goal.invariant-loop-k
-invariant-loop-k l = (l.k ≤ l.n) × (length l.v ≡ length l.initial.v) × Places l.after l.down l.a l.lda l.x0 l.n l.k l.v
-
-abbrev pub decreases-loop-k : goal.decreases-loop-k
-decreases-loop-k l = l.n - l.k
+invariant-loop-k l = Places l.after l.down l.a l.lda l.x0 l.n l.k l.v

@@ -1,8 +1,0 @@
--- `turned` meets its contract.
-use Rattle.trmm_diagonal.proofs.WalkLaws.{turned}
-use native.Mathlib.Omega.{arith}
-use Rattle.trmm_diagonal.proofs.turned.Goals as goal
-
-pub returns : goal.returns
-returns c = let p = c.requires.n_nonzero in
-    turned _ _ _ _ _ _ _ _ p.1 p.4 p.0 p.3 (omega arith) c.take.ensures c.across.ensures c.put.ensures
