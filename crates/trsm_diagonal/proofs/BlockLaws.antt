@@ -19,7 +19,6 @@ use Rattle.floats.specs.Array.{at}
 use Rattle.definitions.specs.declared.Transpose.{Transpose}
 use Rattle.definitions.specs.declared.Transpose.TheVariants.{No, Yes}
 use Rattle.packing.specs.Factor.{index_of, entry_of, turn}
-use Rattle.packing.specs.declared.Form.TheVariants.{Plain}
 use Rattle.forms.specs.Forms.{op_form}
 use Rattle.packing.proofs.FactorLaws.{turn_below}
 use Rattle.lines.specs.Lines.{cell, grid, within, Room}
@@ -36,6 +35,10 @@ unfolding index_of
 diagonal-index No ld i = refl
 diagonal-index Yes ld i = refl
 
+pub diagonal-entry : (t : Transpose) (a : List Float) (ld i : ℕ) → at a (i * ld + i) ≡ entry_of (op_form t) a ld i i
+unfolding entry_of
+diagonal-entry t a ld i = ap (at a) (sym (diagonal-index t ld i))
+
 -- that of the block, in the part of A that starts with it
 module _ (t : Transpose) (a : List Float) (ld x0 i : ℕ) where
   abbrev from : ℕ
@@ -47,9 +50,9 @@ module _ (t : Transpose) (a : List Float) (ld x0 i : ℕ) where
   pub diagonal-inside : index_of (op_form t) ld (x0 + i) (x0 + i) < length a → i * ld + i < length (take (length a - from) (drop from a))
   diagonal-inside h = omega (arith, place, tail-length from a)
 
-  pub diagonal-part : entry_of Plain (take (length a - from) (drop from a)) ld i i ≡ entry_of (op_form t) a ld (x0 + i) (x0 + i)
-  unfolding entry_of index_of
-  diagonal-part = tail_at from a (i * ld + i) nan ∙ ap (at a) place
+  pub diagonal-part : entry_of (op_form t) (take (length a - from) (drop from a)) ld i i ≡ entry_of (op_form t) a ld (x0 + i) (x0 + i)
+  unfolding entry_of
+  diagonal-part = tail_at from a (index_of (op_form t) ld i i) nan ∙ ap (at a) (ap (λ (k : ℕ). from + k) (diagonal-index t ld i) ∙ place)
 
 -- ---- the block by itself: `line` has its lines, by element
 
