@@ -190,12 +190,16 @@ pub fn trsm_strip(call: Call, a: &[f64], b: &mut [f64], from: usize, lines: usiz
     ensures { ((b₀ : List Float) → StripOf call a.now b₀ from (from + lines) (by_side call.side (from * call.ldb) from) b.old b.new)
         × (result ≡ zero_of Trsm call a.now) }
 {
-    let op = Op {
-        t: call.transa,
-        cells: a,
-        ld: call.lda as usize,
-    };
     let low = forms::op_lower(call.transa, call.uplo);
+    let by = Divisor {
+        a: Op {
+            t: call.transa,
+            cells: a,
+            ld: call.lda as usize,
+        },
+        diag: call.diag,
+        down: low,
+    };
     let ld = call.ldb as usize;
     match call.side {
         Side::Left => {
@@ -205,11 +209,7 @@ pub fn trsm_strip(call: Call, a: &[f64], b: &mut [f64], from: usize, lines: usiz
                 m: call.m as usize,
                 lines,
             };
-            let by = Divisor {
-                a: op,
-                diag: call.diag,
-                down: !low,
-            };
+            let by = Divisor { down: !low, ..by };
             report(solve_lines(columns, by, call.alpha, b, r))
         }
         Side::Right => {
@@ -218,11 +218,6 @@ pub fn trsm_strip(call: Call, a: &[f64], b: &mut [f64], from: usize, lines: usiz
                 ld,
                 m: call.n as usize,
                 lines,
-            };
-            let by = Divisor {
-                a: op,
-                diag: call.diag,
-                down: low,
             };
             report(solve_lines(rows, by, call.alpha, b, r))
         }

@@ -1,15 +1,12 @@
 -- `solve_elements` solves the unknowns in order: those below the j-th are done, and `zero` is the lowest index at which they were divided by zero.
 use Prim.Native.Nat.{ℕ, ◌+◌, ◌*◌, ◌<◌}
-use mathlib.Core.Path.{◌≡◌, refl, sym, ap, subst, ◌∙◌}
+use mathlib.Core.Path.{◌≡◌, ap, subst, ◌∙◌}
 use native.Mathlib.Omega.{arith}
 use lib.ListN.{length}
 use Rattle.arrays.specs.Search.{lower}
-use Rattle.floats.specs.Array.{at}
-use Rattle.definitions.specs.Element.{by_zero}
 use Rattle.forms.specs.Forms.{op_matrix}
 use Rattle.lines.proofs.GridLaws.{some-ld}
 use Rattle.trsm_diagonal.specs.Solve.{front}
-use Rattle.trsm_diagonal.proofs.BlockLaws.{diagonal-index}
 use Rattle.trsm_diagonal.proofs.ZeroLaws.{LowestZero, zero-none, zero-unknown, zero-all}
 use Rattle.trsm.specs.Steps.{Step}
 use Rattle.trsm.proofs.ElementLaws.{diagonal-low, elements-none, elements-all}
@@ -24,7 +21,7 @@ diagonal-read c =
 pub loop-j-init : goal.loop-j-init
 loop-j-init c =
     let args = c.args in
-    (refl, elements-none args.g.left args.by.down args.g.ld args.g.m args.g.lines args.by.diag args.by.a.t args.by.a.cells.now args.by.a.ld (some-ld args.g.left args.g.ld args.g.m args.g.lines _ (omega (arith, c.requires)) (omega (arith, c.requires)) c.requires.room) args.b.now, zero-none args.by.down args.g.m args.by.diag (op_matrix args.by.a))
+    (elements-none args.g.left args.by.down args.g.ld args.g.m args.g.lines args.by.diag args.by.a.t args.by.a.cells.now args.by.a.ld (some-ld args.g.left args.g.ld args.g.m args.g.lines _ (omega (arith, c.requires)) (omega (arith, c.requires)) c.requires.room) args.b.now, zero-none args.by.down args.g.m args.by.diag (op_matrix args.by.a))
 
 pub ends_by_zero-requires : goal.ends_by_zero-requires
 ends_by_zero-requires c = diagonal-read (goal.at.ends_by_zero-requires c).After-turn_of-i
@@ -34,9 +31,8 @@ loop-j-preserved c =
     let args = c.args in
     let h = c.loop-j in
     let i = c.turn_of-i.result in (
-      omega (arith, h.invariant.0, c.solve_element.auto),
-      λ start k b₀ e. c.solve_element.ensures start k b₀ (h.invariant.1 start k b₀ e),
-      zero-unknown args.by.down args.g.m args.by.diag (op_matrix args.by.a) h.j i h.zero _ c.ends_by_zero.result (omega arith) c.turn_of-i.ensures.0 h.invariant.2
+      λ start k b₀ e. c.solve_element.ensures start k b₀ (h.invariant.0 start k b₀ e),
+      zero-unknown args.by.down args.g.m args.by.diag (op_matrix args.by.a) h.j i h.zero _ c.ends_by_zero.result (omega arith) c.turn_of-i.ensures.0 h.invariant.1
           c.ends_by_zero.ensures (c.lower-zero.ensures ∙ ap (lower h.zero) c.then_some.ensures),
     )
 
@@ -46,6 +42,6 @@ returns c =
     let h = c.loop-j in
     let e : h.j ≡ args.g.m = omega arith in (
       elements-all args.g.left args.by.down args.g.ld args.g.m args.g.lines args.by.diag args.by.a.t args.by.a.cells.now args.by.a.ld (some-ld args.g.left args.g.ld args.g.m args.g.lines _ (omega (arith, c.requires)) (omega (arith, c.requires)) c.requires.room) args.b.now h.b
-          (subst (λ (j : ℕ). Step args.g.left args.by.down args.g.ld args.g.m args.g.lines args.by.diag (op_matrix args.by.a) (front args.g.m 0) (λ k. front j j (front args.g.m 0 k)) args.b.now h.b) e h.invariant.1),
-      zero-all args.by.down args.g.m args.by.diag (op_matrix args.by.a) h.zero (subst (λ (j : ℕ). LowestZero args.by.down args.g.m args.by.diag (op_matrix args.by.a) 0 j h.zero) e h.invariant.2),
+          (subst (λ (j : ℕ). Step args.g.left args.by.down args.g.ld args.g.m args.g.lines args.by.diag (op_matrix args.by.a) (front args.g.m 0) (λ k. front j j (front args.g.m 0 k)) args.b.now h.b) e h.invariant.0),
+      zero-all args.by.down args.g.m args.by.diag (op_matrix args.by.a) h.zero (subst (λ (j : ℕ). LowestZero args.by.down args.g.m args.by.diag (op_matrix args.by.a) 0 j h.zero) e h.invariant.1),
     )

@@ -1,6 +1,6 @@
 -- `update_rest` adds the terms of solved unknowns: the sums of those below the i-th have them.
 use Prim.Native.Nat.{ℕ, ◌≤◌, ◌<◌, ◌+◌}
-use mathlib.Core.Path.{◌≡◌, subst, ◌∙◌}
+use mathlib.Core.Path.{◌≡◌, subst}
 use Rattle.forms.specs.Forms.{op_matrix}
 use Rattle.lines.proofs.GridLaws.{some-ld}
 use Rattle.trsm_diagonal.specs.Solve.{front}
@@ -40,11 +40,11 @@ more c s e is =
     rw is
     (terms-more args.g.left args.by.down args.g.ld args.g.m args.g.lines args.by.diag (op_matrix args.by.a) (some-ld args.g.left args.g.ld args.g.m args.g.lines _ (omega (arith, s)) (omega (arith, c.requires)) c.requires.room)
     _ args.p args.n args.g.m c.loop-i.i c.min-h.result c.least-x0.result c.least-y.result _ _ args.b.now c.loop-i.b _ minus_one (omega (arith, c.requires)) (omega (arith, c.requires)) (omega (arith, s)) (omega (arith, s)) (omega arith)
-    (omega arith) c.requires.room c.least-x0.ensures.0 c.least-y.ensures.0 c.take.ensures c.loop-i.invariant.3 c.add_terms.ensures)
+    (omega arith) c.requires.room c.least-x0.ensures.0 c.least-y.ensures.0 c.take.ensures c.loop-i.invariant.2 c.add_terms.ensures)
 
 pub loop-i-preserved : goal.loop-i-preserved
 loop-i-preserved c =
-    (omega arith, omega arith, c.add_terms.auto.b ∙ c.loop-i.invariant.2, more (goal.at.loop-i-preserved c).After-add_terms (turn (goal.at.loop-i-preserved c).After-min-h) (c.loop-i.i + c.reach-w.result) (omega arith))
+    (omega arith, omega arith, more (goal.at.loop-i-preserved c).After-add_terms (turn (goal.at.loop-i-preserved c).After-min-h) (c.loop-i.i + c.reach-w.result) (omega arith))
 
 -- that was the last turn
 pub returns-else-p-n-2 : goal.returns-else-p-n-2
@@ -62,4 +62,4 @@ returns-else-p-n c =
     terms-done args.g.left args.by.down args.g.ld args.g.m args.g.lines args.by.diag (op_matrix args.by.a) (some-ld args.g.left args.g.ld args.g.m args.g.lines _ (omega arith) (omega arith) c.requires.room)
     args.p args.n args.g.m args.b.now c.loop-i.b
     (subst (λ (i : ℕ). Step args.g.left args.by.down args.g.ld args.g.m args.g.lines args.by.diag (op_matrix args.by.a) (λ k. front (args.p + args.n) (args.p + args.n) (front args.g.m args.p k)) (λ k. front i (args.p + args.n) (front args.g.m args.p k)) args.b.now c.loop-i.b) e
-    c.loop-i.invariant.3)
+    c.loop-i.invariant.2)

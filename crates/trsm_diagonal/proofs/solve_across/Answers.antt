@@ -7,7 +7,6 @@ use lib.ListN.{length}
 use Rattle.arrays.proofs.PartLaws.{tail-length}
 use Rattle.arrays.proofs.SearchLaws.{found-same}
 use Rattle.definitions.specs.Element.{by_zero}
-use Rattle.packing.specs.Factor.{entry_of}
 use Rattle.forms.specs.Forms.{op_matrix}
 use Rattle.trsm_diagonal.proofs.OrderLaws.{ordered_same}
 use Rattle.trsm_diagonal.proofs.FactorLaws.{packed-is}

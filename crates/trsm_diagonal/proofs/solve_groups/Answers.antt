@@ -1,18 +1,16 @@
 -- `solve_groups` solves a diagonal block group by group: the first j unknowns have their values, u has what their terms take, and `zero` is the lowest index at which
 -- they were divided by zero.
 use Rattle.std.proofs.Common.{rules}
-use mathlib.Core.Path.{◌≡◌, refl, sym, ap, subst, ◌∙◌}
+use mathlib.Core.Path.{◌≡◌, sym, ap, subst}
 use mathlib.Core.List.{List}
 use Prim.Native.Nat.{ℕ, ◌+◌, ◌*◌, ◌≤◌, ◌<◌, ◌-◌}
 use lib.ListN.{length, take, drop}
 use lib.Ieee.{Float}
 use borrow.Rule.Slice.PartMut.{put_mid, same_len_mid}
-use Rattle.arrays.proofs.UpdateLaws.{length-update}
 use Rattle.arrays.proofs.PartLaws.{tail-length, column-room, columns-room}
 use Rattle.arrays.proofs.SearchLaws.{found-same, mapped}
 use Rattle.definitions.specs.Element.{by_zero}
 use Rattle.forms.specs.Forms.{op_matrix}
-use Rattle.definitions.specs.declared.Transpose.TheVariants.{No}
 use Rattle.trsm_diagonal.proofs.AcrossLaws.{none-solved, none_kept, group-done, all-solved}
 use Rattle.trsm_diagonal.proofs.BlockLaws.{diagonal-index, diagonal-inside, diagonal-part}
 use Rattle.trsm_diagonal.proofs.ZeroLaws.{zero-none, zero-found, zero_more, zero-all}
@@ -41,8 +39,8 @@ turn c =
       element = omega arith;
       columns = columns-room c.args.g.ld c.least-y.result c.small-h.result c.least-y.ensures.1;
       column = column-room c.args.g.ld (omega (arith, c.small-h.ensures.2 (omega arith), c.least-y.ensures.1));
-      room = omega (arith, c.requires.room, c.loop-j.invariant.1);
-      u-long = omega (arith, c.loop-j.invariant.2);
+      room = omega (arith, c.requires.room);
+      u-long = omega arith;
       diagonal = c.requires.m_bound.5 c.least-y.result (omega (arith, c.small-h.ensures.2 (omega arith), c.least-y.ensures.1));
     }
 
@@ -56,7 +54,7 @@ group-room {y = y} {ld = ld} s ys u v t es lv =
     (omega arith, simp tail-length (omega arith), simp tail-length (omega arith), simp tail-length (omega (arith, same_len_mid (y * ld) (length s - y * ld) s ys es)), λ i hi. omega arith)
 
 pub loop-j-init : goal.loop-j-init
-loop-j-init c = (omega arith, refl, refl, none-solved c.args.g.left c.args.by.down c.args.g.ld c.args.g.m c.args.g.lines c.args.by.diag (op_matrix c.args.by.a) c.args.v.now c.args.s.now c.args.u.now c.requires.m_bound.1 c.requires.room (omega arith, omega arith), none_kept c.args.g.left c.args.by.down c.args.g.ld c.args.g.m c.args.g.lines c.args.by.diag (op_matrix c.args.by.a) c.args.v.now c.args.s.now c.args.u.now c.requires.m_bound.1 c.requires.room (omega arith, omega arith), zero-none c.args.by.down c.args.g.m c.args.by.diag (op_matrix c.args.by.a))
+loop-j-init c = (omega arith, none-solved c.args.g.left c.args.by.down c.args.g.ld c.args.g.m c.args.g.lines c.args.by.diag (op_matrix c.args.by.a) c.args.v.now c.args.s.now c.args.u.now c.requires.m_bound.1 c.requires.room (omega arith, omega arith), none_kept c.args.g.left c.args.by.down c.args.g.ld c.args.g.m c.args.g.lines c.args.by.diag (op_matrix c.args.by.a) c.args.v.now c.args.s.now c.args.u.now c.requires.m_bound.1 c.requires.room (omega arith, omega arith), zero-none c.args.by.down c.args.g.m c.args.by.diag (op_matrix c.args.by.a))
 
 pub block-requires : goal.block-requires
 block-requires c = record {
@@ -79,13 +77,13 @@ loop-j-preserved c =
     let t = turn (goal.at.loop-j-preserved c).After-least-y in
     let y = c.least-y.result in
     let h = c.small-h.result in
-    let done = group-done args.g.left args.by.down args.g.ld args.g.m args.g.lines args.by.diag (op_matrix args.by.a) args.v.now args.s.now args.u.now c.requires.m_bound.1 c.requires.room (omega (arith, c.requires), omega (arith, c.requires)) c.loop-j.j y c.loop-j.u c.loop-j.s c.loop-j.invariant.3 c.loop-j.invariant.4 h _ t.some t.within c.least-y.ensures.0 c.least-y.ensures.1 c.block.ensures _ (λ i hi. diagonal-part args.by.a.t args.by.a.cells.now args.by.a.ld y i) _ _ c.solve_unknowns-z.ensures.0 c.solve_unknowns-z.ensures.1 in
+    let done = group-done args.g.left args.by.down args.g.ld args.g.m args.g.lines args.by.diag (op_matrix args.by.a) args.v.now args.s.now args.u.now c.requires.m_bound.1 c.requires.room (omega (arith, c.requires), omega (arith, c.requires)) c.loop-j.j y c.loop-j.u c.loop-j.s c.loop-j.invariant.1 c.loop-j.invariant.2 h _ t.some t.within c.least-y.ensures.0 c.least-y.ensures.1 c.block.ensures _ (λ i hi. diagonal-part args.by.a.t args.by.a.cells.now args.by.a.ld y i) _ _ c.solve_unknowns-z.ensures.0 c.solve_unknowns-z.ensures.1 in
     let found = zero-found args.by.down args.g.m args.by.diag (op_matrix args.by.a) c.loop-j.j h y c.solve_unknowns-z.result _ t.within c.least-y.ensures.0 c.least-y.ensures.1 (found-same _ _ h _ (λ i hi. ap (by_zero args.by.diag) (diagonal-part args.by.a.t args.by.a.cells.now args.by.a.ld y i)) c.solve_unknowns-z.ensures.2) (mapped (λ i. y + i) _ (λ x r p. search rules) _ _ c.map.ensures.cases) in
-    let zero = zero_more args.by.down args.g.m args.by.diag (op_matrix args.by.a) c.loop-j.j (c.loop-j.j + h) c.loop-j.zero _ _ (omega arith) c.loop-j.invariant.5 found c.lower-zero.ensures in
-    (t.within, ap length done.0 ∙ length-update _ _, ap length done.1 ∙ length-update _ _, done.0, done.1, zero)
+    let zero = zero_more args.by.down args.g.m args.by.diag (op_matrix args.by.a) c.loop-j.j (c.loop-j.j + h) c.loop-j.zero _ _ (omega arith) c.loop-j.invariant.3 found c.lower-zero.ensures in
+    (t.within, done.0, done.1, zero)
 
 pub returns : goal.returns
 returns c =
     let args = c.args in
     let e : c.loop-j.j ≡ args.g.m = omega arith in
-    (all-solved args.g.left args.by.down args.g.ld args.g.m args.g.lines args.by.diag (op_matrix args.by.a) args.v.now args.s.now args.u.now c.requires.m_bound.1 c.requires.room (omega (arith, c.requires), omega (arith, c.requires)) c.loop-j.s (rw e at c.loop-j.invariant.3), zero-all args.by.down args.g.m args.by.diag (op_matrix args.by.a) c.loop-j.zero (rw e at c.loop-j.invariant.5))
+    (all-solved args.g.left args.by.down args.g.ld args.g.m args.g.lines args.by.diag (op_matrix args.by.a) args.v.now args.s.now args.u.now c.requires.m_bound.1 c.requires.room (omega (arith, c.requires), omega (arith, c.requires)) c.loop-j.s (rw e at c.loop-j.invariant.1), zero-all args.by.down args.g.m args.by.diag (op_matrix args.by.a) c.loop-j.zero (rw e at c.loop-j.invariant.3))

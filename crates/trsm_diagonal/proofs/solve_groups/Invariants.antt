@@ -1,8 +1,6 @@
 -- `solve_groups` solves a diagonal block group by group: the first j unknowns have their values, u has what their terms take, and `zero` is the lowest index at which
 -- they were divided by zero.
-use mathlib.Core.Path.{◌≡◌}
 use Prim.Native.Nat.{◌≤◌, ◌-◌}
-use lib.ListN.{length}
 use Rattle.forms.specs.Forms.{op_matrix}
 use Rattle.trsm_diagonal.proofs.AcrossLaws.{Solved, Kept}
 use Rattle.trsm_diagonal.proofs.ZeroLaws.{LowestZero}
@@ -10,7 +8,7 @@ use Rattle.trsm_diagonal.proofs.solve_groups.Given as goal
 
 abbrev pub invariant-loop-j : goal.invariant-loop-j
 invariant-loop-j l =
-    (l.j ≤ l.g.m) × (length l.s ≡ length l.initial.s) × (length l.u ≡ length l.initial.u)
+    (l.j ≤ l.g.m)
     × Solved l.g.left l.by.down l.g.ld l.g.m l.g.lines l.by.diag (op_matrix l.by.a) l.v l.initial.s l.initial.u l.j l.s
     × Kept l.g.left l.by.down l.g.ld l.g.m l.g.lines l.by.diag (op_matrix l.by.a) l.v l.initial.s l.initial.u l.j l.u
     × LowestZero l.by.down l.g.m l.by.diag (op_matrix l.by.a) 0 l.j l.zero

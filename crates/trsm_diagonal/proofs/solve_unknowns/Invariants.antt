@@ -9,7 +9,7 @@ use Rattle.trsm_diagonal.proofs.solve_unknowns.Given as goal
 
 abbrev pub invariant-loop-j : goal.invariant-loop-j
 invariant-loop-j l =
-    (length l.s ≡ length l.initial.s) × (length l.u ≡ length l.initial.u)
+    (length l.s ≡ length l.initial.s)
     × Solved l.g.left l.by.down l.g.ld l.g.m l.g.lines l.by.diag (op_matrix l.by.a) l.v l.initial.s l.initial.u l.j l.s
     × Kept l.g.left l.by.down l.g.ld l.g.m l.g.lines l.by.diag (op_matrix l.by.a) l.v l.initial.s l.initial.u l.j l.u
     × LowestZero l.by.down l.g.m l.by.diag (op_matrix l.by.a) 0 l.j l.zero
