@@ -1,6 +1,6 @@
 -- `solve` solves all unknowns by blocks: those below the q-th are done, and `zero` is the lowest index at which they were divided by zero.
-use Prim.Native.Nat.{ℕ, ◌≤◌, ◌<◌, ◌+◌}
-use mathlib.Core.Path.{◌≡◌, subst}
+use Prim.Native.Nat.{ℕ, ◌+◌}
+use mathlib.Core.Path.{◌≡◌}
 use Rattle.forms.specs.Forms.{op_matrix}
 use Rattle.lines.proofs.GridLaws.{some-ld}
 use Rattle.trsm_diagonal.specs.Solve.{front}
@@ -9,17 +9,7 @@ use Rattle.trsm.specs.Steps.{Step}
 use Rattle.trsm.proofs.StepLaws.{block_more}
 use native.Mathlib.Omega.{arith}
 use Rattle.trsm.proofs.solve.Goals as goal
-use Rattle.trsm.proofs.solve.Goals.{After-min-n, After-lower-zero}
-
--- in a turn: n unknowns from the q-th on
-record Turn (q n m : ℕ) : Type 0 where
-  some : 0 < n
-  few : n ≤ 64
-  within : q + n ≤ m
-
-turn : (c : After-min-n) → Turn c.loop-q.q c.min-n.result c.args.g.m
-turn c =
-    record { some = omega arith; few = omega arith; within = omega arith }
+use Rattle.trsm.proofs.solve.Goals.{After-lower-zero}
 
 pub loop-q-init : goal.loop-q-init
 loop-q-init c = (omega arith, λ start k l h. h, zero-none c.args.by.down c.args.g.m c.args.by.diag (op_matrix c.args.by.a))
@@ -48,12 +38,3 @@ returns-2 c =
     let args = c.args in
     let d = done (goal.at.returns-2 c).After-lower-zero args.g.m (omega arith) in
     (d.0, zero-all args.by.down args.g.m args.by.diag (op_matrix args.by.a) c.lower-zero.result d.1)
-
--- there was none
-pub returns : goal.returns
-returns c =
-    let args = c.args in
-    let e : c.loop-q.q ≡ args.g.m = omega arith in (
-      subst (λ (q : ℕ). Step args.g.left args.by.down args.g.ld args.g.m args.g.lines args.by.diag (op_matrix args.by.a) (front args.g.m 0) (front args.g.m q) args.b.now c.loop-q.b) e c.loop-q.invariant.1,
-      zero-all args.by.down args.g.m args.by.diag (op_matrix args.by.a) c.loop-q.zero (subst (λ (q : ℕ). LowestZero args.by.down args.g.m args.by.diag (op_matrix args.by.a) 0 q c.loop-q.zero) e c.loop-q.invariant.2),
-    )

@@ -1,5 +1,5 @@
 -- `update_rest` adds the terms of solved unknowns: the sums of those below the i-th have them.
-use Prim.Native.Nat.{ℕ, ◌≤◌, ◌<◌, ◌+◌}
+use Prim.Native.Nat.{ℕ, ◌+◌}
 use mathlib.Core.Path.{◌≡◌, subst}
 use Rattle.forms.specs.Forms.{op_matrix}
 use Rattle.lines.proofs.GridLaws.{some-ld}
@@ -9,17 +9,7 @@ use Rattle.trsm.specs.Steps.{Step}
 use Rattle.trsm.proofs.StepLaws.{terms-more, terms-done}
 use native.Mathlib.Omega.{arith}
 use Rattle.trsm.proofs.update_rest.Goals as goal
-use Rattle.trsm.proofs.update_rest.Goals.{After-min-h, After-add_terms}
-
--- in a turn: h unknowns from the i-th on
-record Turn (i h p n m : ℕ) : Type 0 where
-  some : 0 < h
-  from : p + n ≤ i
-  within : i + h ≤ m
-
-turn : (c : After-min-h) → Turn c.loop-i.i c.min-h.result c.args.p c.args.n c.args.g.m
-turn c =
-    record { some = omega (arith, c.reach-w.ensures.1 (omega arith)); from = omega arith; within = omega arith }
+use Rattle.trsm.proofs.update_rest.Goals.{After-add_terms}
 
 -- nothing is left
 pub returns-then-p-n : goal.returns-then-p-n
@@ -32,19 +22,19 @@ returns-then-p-n c =
     (λ start k l h. h))
 
 -- after it those below the e-th have the terms
-more : (c : After-add_terms) → Turn c.loop-i.i c.min-h.result c.args.p c.args.n c.args.g.m → (e : ℕ) → e ≡ c.loop-i.i + c.min-h.result
+more : (c : After-add_terms) (e : ℕ) → e ≡ c.loop-i.i + c.min-h.result
     → let args = c.args in
     Step args.g.left args.by.down args.g.ld args.g.m args.g.lines args.by.diag (op_matrix args.by.a) (λ k. front (args.p + args.n) (args.p + args.n) (front args.g.m args.p k)) (λ k. front e (args.p + args.n) (front args.g.m args.p k)) args.b.now c.add_terms.new.b
-more c s e is =
+more c e is =
     let args = c.args in
     rw is
-    (terms-more args.g.left args.by.down args.g.ld args.g.m args.g.lines args.by.diag (op_matrix args.by.a) (some-ld args.g.left args.g.ld args.g.m args.g.lines _ (omega (arith, s)) (omega (arith, c.requires)) c.requires.room)
-    _ args.p args.n args.g.m c.loop-i.i c.min-h.result c.least-x0.result c.least-y.result _ _ args.b.now c.loop-i.b _ minus_one (omega (arith, c.requires)) (omega (arith, c.requires)) (omega (arith, s)) (omega (arith, s)) (omega arith)
+    (terms-more args.g.left args.by.down args.g.ld args.g.m args.g.lines args.by.diag (op_matrix args.by.a) (some-ld args.g.left args.g.ld args.g.m args.g.lines _ (omega arith) (omega (arith, c.requires)) c.requires.room)
+    _ args.p args.n args.g.m c.loop-i.i c.min-h.result c.least-x0.result c.least-y.result _ _ args.b.now c.loop-i.b _ minus_one (omega (arith, c.requires)) (omega (arith, c.requires)) (omega arith) (omega arith) (omega arith)
     (omega arith) c.requires.room c.least-x0.ensures.0 c.least-y.ensures.0 c.take.ensures c.loop-i.invariant.2 c.add_terms.ensures)
 
 pub loop-i-preserved : goal.loop-i-preserved
 loop-i-preserved c =
-    (omega arith, omega arith, more (goal.at.loop-i-preserved c).After-add_terms (turn (goal.at.loop-i-preserved c).After-min-h) (c.loop-i.i + c.reach-w.result) (omega arith))
+    (omega arith, omega arith, more (goal.at.loop-i-preserved c).After-add_terms (c.loop-i.i + c.reach-w.result) (omega arith))
 
 -- that was the last turn
 pub returns-else-p-n-2 : goal.returns-else-p-n-2
@@ -52,14 +42,4 @@ returns-else-p-n-2 c =
     let args = c.args in
     terms-done args.g.left args.by.down args.g.ld args.g.m args.g.lines args.by.diag (op_matrix args.by.a) (some-ld args.g.left args.g.ld args.g.m args.g.lines _ (omega arith) (omega arith) c.requires.room)
     args.p args.n args.g.m args.b.now _
-    (more (goal.at.returns-else-p-n-2 c).After-add_terms (turn (goal.at.returns-else-p-n-2 c).After-min-h) args.g.m (omega arith))
-
--- there was none
-pub returns-else-p-n : goal.returns-else-p-n
-returns-else-p-n c =
-    let args = c.args in
-    let e : c.loop-i.i ≡ args.g.m = omega arith in
-    terms-done args.g.left args.by.down args.g.ld args.g.m args.g.lines args.by.diag (op_matrix args.by.a) (some-ld args.g.left args.g.ld args.g.m args.g.lines _ (omega arith) (omega arith) c.requires.room)
-    args.p args.n args.g.m args.b.now c.loop-i.b
-    (subst (λ (i : ℕ). Step args.g.left args.by.down args.g.ld args.g.m args.g.lines args.by.diag (op_matrix args.by.a) (λ k. front (args.p + args.n) (args.p + args.n) (front args.g.m args.p k)) (λ k. front i (args.p + args.n) (front args.g.m args.p k)) args.b.now c.loop-i.b) e
-    c.loop-i.invariant.2)
+    (more (goal.at.returns-else-p-n-2 c).After-add_terms args.g.m (omega arith))
