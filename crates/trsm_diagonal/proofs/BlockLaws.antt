@@ -14,7 +14,7 @@ use Rattle.arrays.specs.Update.{update}
 use Rattle.arrays.specs.Fold.{fold}
 use Rattle.arrays.proofs.UpdateLaws.{length-update}
 use Rattle.arrays.proofs.FoldLaws.{fold_same}
-use Rattle.arrays.proofs.PartLaws.{tail_at, tail-length}
+use Rattle.arrays.proofs.PartLaws.{tail_at}
 use Rattle.floats.specs.Array.{at}
 use Rattle.definitions.specs.declared.Transpose.{Transpose}
 use Rattle.definitions.specs.declared.Transpose.TheVariants.{No, Yes}
@@ -38,21 +38,6 @@ diagonal-index Yes ld i = refl
 pub diagonal-entry : (t : Transpose) (a : List Float) (ld i : ℕ) → at a (i * ld + i) ≡ entry_of (op_form t) a ld i i
 unfolding entry_of
 diagonal-entry t a ld i = ap (at a) (sym (diagonal-index t ld i))
-
--- that of the block, in the part of A that starts with it
-module _ (t : Transpose) (a : List Float) (ld x0 i : ℕ) where
-  abbrev from : ℕ
-  from = x0 * ld + x0
-
-  place : from + (i * ld + i) ≡ index_of (op_form t) ld (x0 + i) (x0 + i)
-  place = rw (diagonal-index t ld (x0 + i), add-mul x0 i ld) (omega arith)
-
-  pub diagonal-inside : index_of (op_form t) ld (x0 + i) (x0 + i) < length a → i * ld + i < length (take (length a - from) (drop from a))
-  diagonal-inside h = omega (arith, place, tail-length from a)
-
-  pub diagonal-part : entry_of (op_form t) (take (length a - from) (drop from a)) ld i i ≡ entry_of (op_form t) a ld (x0 + i) (x0 + i)
-  unfolding entry_of
-  diagonal-part = tail_at from a (index_of (op_form t) ld i i) nan ∙ ap (at a) (ap (λ (k : ℕ). from + k) (diagonal-index t ld i) ∙ place)
 
 -- ---- the block by itself: `line` has its lines, by element
 

@@ -12,7 +12,7 @@ ghost use Rattle.packing.specs.Factor.{index_of, turn};
 ghost use Rattle.blocks.specs.Terms.{packed};
 ghost use Rattle.forms.specs.Forms.{op_form, op_matrix};
 ghost use Rattle.lines.specs.Lines.{cell, grid, coefficient, Room};
-ghost use Rattle.trsm_diagonal.specs.Solve.{first, ordered, value_factor, matrix_factor, block_value, packed_value};
+ghost use Rattle.trsm_diagonal.specs.Solve.{first, ordered, value_factor, matrix_factor, block_from, block_value, packed_value};
 
 use blocks::{block, pass};
 use definitions::Diagonal;
@@ -96,14 +96,21 @@ fn value_factors(left: bool, u: &mut [f64], lines: usize, s: &[f64])
     }
 }
 
-// The unknowns of a small triangle that starts with op(A), g.m of them, one after the other. On either side lines stand across in s, element i of line l at i * g.ld + l; v has the factors of the
-// entries, and u takes those of the unknowns.
-fn solve_unknowns(g: Grid, by: Divisor, s: &mut [f64], u: &mut [f64], v: &[f64]) -> Option<usize>
-    requires m_bound { (g.m ≤ 64) × (0 < g.lines) × (g.lines ≤ 64) × (g.m * 64 ≤ length u.old) × (g.m * 64 + g.m ≤ length v.now + 64) × ((i : ℕ) → i < g.m → i * by.a.ld + i < length by.a.cells.now) }
+// The unknowns of a small triangle, from element x0 on, g.m of them, one after the other. On either side lines stand across in s, element x0 + i of line l at i * g.ld + l; v has the factors
+// of the entries, and u takes those of the unknowns.
+fn solve_unknowns(
+    g: Grid,
+    by: Divisor,
+    x0: usize,
+    s: &mut [f64],
+    u: &mut [f64],
+    v: &[f64],
+) -> Option<usize>
+    requires m_bound { (g.m ≤ 64) × (0 < g.lines) × (g.lines ≤ 64) × (g.m * 64 ≤ length u.old) × (g.m * 64 + g.m ≤ length v.now + 64) × ((i : ℕ) → i < g.m → (x0 + i) * by.a.ld + (x0 + i) < length by.a.cells.now) }
     requires room { Room false g.ld g.m g.lines (length s.old) }
-    ensures { (s.new ≡ update (ordered false by.entry.down g.ld g.m g.lines (λ q l _. packed_value g.left by.entry.down g.m by.entry.diag (op_matrix by.entry.a) v.now (λ i. at s.old (cell false g.ld i l)) q)) s.old)
-        × (u.new ≡ update (grid false 64 g.m g.lines (λ q l _. value_factor g.left (packed_value g.left by.entry.down g.m by.entry.diag (op_matrix by.entry.a) v.now (λ i. at s.old (cell false g.ld i l)) q))) u.old)
-        × Found (λ i. by_zero by.entry.diag (op_matrix by.entry.a i i)) g.m result }
+    ensures { (s.new ≡ update (ordered false by.entry.down g.ld g.m g.lines (λ q l _. packed_value g.left by.entry.down g.m by.entry.diag (block_from x0 (op_matrix by.entry.a)) v.now (λ i. at s.old (cell false g.ld i l)) q)) s.old)
+        × (u.new ≡ update (grid false 64 g.m g.lines (λ q l _. value_factor g.left (packed_value g.left by.entry.down g.m by.entry.diag (block_from x0 (op_matrix by.entry.a)) v.now (λ i. at s.old (cell false g.ld i l)) q))) u.old)
+        × Found (λ i. by_zero by.entry.diag (op_matrix by.entry.a (x0 + i) (x0 + i))) g.m result }
 {
     let mut zero = None;
     for j in 0..g.m {
@@ -111,20 +118,27 @@ fn solve_unknowns(g: Grid, by: Divisor, s: &mut [f64], u: &mut [f64], v: &[f64])
         let to = i * g.ld;
         let row = i * 64;
         let x = j * 64;
-        let found = solve_unknown(by, &mut s[to..], g.lines, j, u, &v[row..], i);
+        let found = solve_unknown(by, &mut s[to..], g.lines, j, u, &v[row..], x0 + i);
         value_factors(g.left, &mut u[x..], g.lines, &s[to..]);
         zero = lower(zero, found.then_some(i));
     }
     zero
 }
 
-// The unknowns of the diagonal block that starts with op(A), some of them at a time: the terms of all before these are a product of packed blocks, and with
-// their own they are a small triangle. A `while`: `block::small` says how far each goes.
-fn solve_groups(g: Grid, by: Divisor, s: &mut [f64], u: &mut [f64], v: &[f64]) -> Option<usize>
-    requires m_bound { (g.m ≤ 64) × (0 < g.lines) × (g.lines ≤ 64) × (4096 ≤ length u.old) × (4096 ≤ length v.now) × ((i : ℕ) → i < g.m → i * by.a.ld + i < length by.a.cells.now) }
+// The unknowns of a diagonal block, some of them at a time: the terms of all before these are a product of packed blocks, and with their own they are a small
+// triangle. A `while`: `block::small` says how far each goes.
+fn solve_groups(
+    g: Grid,
+    by: Divisor,
+    x0: usize,
+    s: &mut [f64],
+    u: &mut [f64],
+    v: &[f64],
+) -> Option<usize>
+    requires m_bound { (g.m ≤ 64) × (0 < g.lines) × (g.lines ≤ 64) × (4096 ≤ length u.old) × (4096 ≤ length v.now) × ((i : ℕ) → i < g.m → (x0 + i) * by.a.ld + (x0 + i) < length by.a.cells.now) }
     requires room { Room false g.ld g.m g.lines (length s.old) }
-    ensures { (s.new ≡ update (ordered false by.entry.down g.ld g.m g.lines (λ q l _. packed_value g.left by.entry.down g.m by.entry.diag (op_matrix by.entry.a) v.now (λ i. at s.old (cell false g.ld i l)) q)) s.old)
-        × Found (λ i. by_zero by.entry.diag (op_matrix by.entry.a i i)) g.m result }
+    ensures { (s.new ≡ update (ordered false by.entry.down g.ld g.m g.lines (λ q l _. packed_value g.left by.entry.down g.m by.entry.diag (block_from x0 (op_matrix by.entry.a)) v.now (λ i. at s.old (cell false g.ld i l)) q)) s.old)
+        × Found (λ i. by_zero by.entry.diag (op_matrix by.entry.a (x0 + i) (x0 + i))) g.m result }
 {
     let mut zero = None;
     let mut j = 0;
@@ -135,17 +149,9 @@ fn solve_groups(g: Grid, by: Divisor, s: &mut [f64], u: &mut [f64], v: &[f64]) -
         let row = y * 64;
         let x = j * 64;
         let w = row + j;
-        let k = y * by.a.ld + y;
         block::block(&mut s[to..], g.ld, g.lines, h, j, u, &v[row..]);
         let group = Grid { m: h, ..g };
-        let own = Divisor {
-            a: Op {
-                cells: &by.a.cells[k..],
-                ..by.a
-            },
-            ..by
-        };
-        let z = solve_unknowns(group, own, &mut s[to..], &mut u[x..], &v[w..]);
+        let z = solve_unknowns(group, by, x0 + y, &mut s[to..], &mut u[x..], &v[w..]);
         zero = lower(zero, z.map(|i| y + i));
         j += h;
     }
@@ -156,19 +162,11 @@ fn solve_groups(g: Grid, by: Divisor, s: &mut [f64], u: &mut [f64], v: &[f64]) -
 pub fn solve_across(g: Grid, by: Divisor, s: &mut [f64], x0: usize) -> Option<usize>
     requires m_nonzero { (0 < g.m) × (g.m ≤ 64) × (0 < g.lines) × (g.lines ≤ 64) × (x0 + g.m < 18446744073709551616) × ((i j : ℕ) → i < g.m → j < g.m → index_of (op_form by.a.t) by.a.ld (x0 + i) (x0 + j) < length by.a.cells.now) }
     requires room { Room false g.ld g.m g.lines (length s.old) }
-    ensures { (s.new ≡ update (ordered false by.entry.down g.ld g.m g.lines (λ q l _. block_value g.left by.entry.down g.m by.entry.diag (λ i j. op_matrix by.entry.a (x0 + i) (x0 + j)) (λ i. at s.old (cell false g.ld i l)) q)) s.old)
+    ensures { (s.new ≡ update (ordered false by.entry.down g.ld g.m g.lines (λ q l _. block_value g.left by.entry.down g.m by.entry.diag (block_from x0 (op_matrix by.entry.a)) (λ i. at s.old (cell false g.ld i l)) q)) s.old)
         × Found (λ i. by_zero by.entry.diag (op_matrix by.entry.a (x0 + i) (x0 + i))) g.m result }
 {
     let mut u = [0.0f64; 4096];
     let mut v = [0.0f64; 4096];
     matrix_factors(g.left, by, x0, g.m, &mut v);
-    let from = x0 * by.a.ld + x0;
-    let own = Divisor {
-        a: Op {
-            cells: &by.a.cells[from..],
-            ..by.a
-        },
-        ..by
-    };
-    solve_groups(g, own, s, &mut u, &v)
+    solve_groups(g, by, x0, s, &mut u, &v)
 }

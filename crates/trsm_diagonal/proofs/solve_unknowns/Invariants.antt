@@ -3,6 +3,7 @@
 use mathlib.Core.Path.{◌≡◌}
 use lib.ListN.{length}
 use Rattle.forms.specs.Forms.{op_matrix}
+use Rattle.trsm_diagonal.specs.Solve.{block_from}
 use Rattle.trsm_diagonal.proofs.AcrossLaws.{Solved, Kept}
 use Rattle.trsm_diagonal.proofs.ZeroLaws.{LowestZero}
 use Rattle.trsm_diagonal.proofs.solve_unknowns.Given as goal
@@ -10,6 +11,6 @@ use Rattle.trsm_diagonal.proofs.solve_unknowns.Given as goal
 abbrev pub invariant-loop-j : goal.invariant-loop-j
 invariant-loop-j l =
     (length l.s ≡ length l.initial.s)
-    × Solved l.g.left l.by.down l.g.ld l.g.m l.g.lines l.by.diag (op_matrix l.by.a) l.v l.initial.s l.initial.u l.j l.s
-    × Kept l.g.left l.by.down l.g.ld l.g.m l.g.lines l.by.diag (op_matrix l.by.a) l.v l.initial.s l.initial.u l.j l.u
-    × LowestZero l.by.down l.g.m l.by.diag (op_matrix l.by.a) 0 l.j l.zero
+    × Solved l.g.left l.by.down l.g.ld l.g.m l.g.lines l.by.diag (block_from l.x0 (op_matrix l.by.a)) l.v l.initial.s l.initial.u l.j l.s
+    × Kept l.g.left l.by.down l.g.ld l.g.m l.g.lines l.by.diag (block_from l.x0 (op_matrix l.by.a)) l.v l.initial.s l.initial.u l.j l.u
+    × LowestZero l.by.down l.g.m l.by.diag (block_from l.x0 (op_matrix l.by.a)) 0 l.j l.zero
