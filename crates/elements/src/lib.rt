@@ -57,25 +57,27 @@ fn term(left: bool, alpha: f64, w: f64, e: f64, x: f64) -> f64
     }
 }
 
-// What a sum starts with; y is the element's old value.
-fn begin(left: bool, f: Formula, y: f64) -> f64
-    ensures { result ≡ begun left f.alpha f.start y }
-{
-    match f.start {
-        Start::Value => y,
-        Start::Zero => 0.0,
-        Start::OwnFirst(w) => term(left, f.alpha, w, 0.0, y),
+impl Formula {
+    // What a sum starts with; y is the element's old value.
+    fn begin(self, left: bool, y: f64) -> f64
+        ensures { result ≡ begun left self.alpha self.start y }
+    {
+        match self.start {
+            Start::Value => y,
+            Start::Zero => 0.0,
+            Start::OwnFirst(w) => term(left, self.alpha, w, 0.0, y),
+        }
     }
-}
 
-// What the sum e becomes at its end.
-fn finish(left: bool, f: Formula, e: f64, y: f64) -> f64
-    ensures { result ≡ finished left f.alpha f.end e y }
-{
-    match f.end {
-        End::Sum => e,
-        End::OwnLast(w) => term(left, f.alpha, w, e, y),
-        End::Quotient(d) => e / d,
+    // What the sum e becomes at its end.
+    fn finish(self, left: bool, e: f64, y: f64) -> f64
+        ensures { result ≡ finished left self.alpha self.end e y }
+    {
+        match self.end {
+            End::Sum => e,
+            End::OwnLast(w) => term(left, self.alpha, w, e, y),
+            End::Quotient(d) => e / d,
+        }
     }
 }
 
@@ -142,18 +144,18 @@ fn four(
     let bz = b[z];
     let bw = b[w];
     let s = Lanes {
-        e: begin(g.left, f, bx),
-        f: begin(g.left, f, by),
-        g: begin(g.left, f, bz),
-        h: begin(g.left, f, bw),
+        e: f.begin(g.left, bx),
+        f: f.begin(g.left, by),
+        g: f.begin(g.left, bz),
+        h: f.begin(g.left, bw),
     };
     let r = terms(
         g.left, f.alpha, s, b, across, step, a, sa, down, from, count,
     );
-    b[x] = finish(g.left, f, r.e, bx);
-    b[y] = finish(g.left, f, r.f, by);
-    b[z] = finish(g.left, f, r.g, bz);
-    b[w] = finish(g.left, f, r.h, bw);
+    b[x] = f.finish(g.left, r.e, bx);
+    b[y] = f.finish(g.left, r.f, by);
+    b[z] = f.finish(g.left, r.g, bz);
+    b[w] = f.finish(g.left, r.h, bw);
 }
 
 // Element i of one line.
@@ -174,12 +176,12 @@ fn single(
     let step = arrays::pick(g.left, 1, g.ld);
     let x = i * step;
     let bx = b[x];
-    let mut e = begin(g.left, f, bx);
+    let mut e = f.begin(g.left, bx);
     for k in 0..count {
         let p = factor::step(down, from, k);
         e = term(g.left, f.alpha, a[p * sa], e, b[p * step]);
     }
-    b[x] = finish(g.left, f, e, bx);
+    b[x] = f.finish(g.left, e, bx);
 }
 
 // Element i of each line, one line after the other.

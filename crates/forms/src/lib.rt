@@ -42,14 +42,10 @@ pub fn mirrored_form(t: Triangle) -> Form
 pub fn op_lower(t: Transpose, uplo: Triangle) -> bool
     ensures { result ≡ solves_up Left (op_triangle t uplo) }
 {
-    match uplo {
-        Triangle::Lower => match t {
-            Transpose::No => true,
-            Transpose::Yes => false,
-        },
-        Triangle::Upper => match t {
-            Transpose::No => false,
-            Transpose::Yes => true,
-        },
+    match (t, uplo) {
+        (Transpose::No, Triangle::Lower) => true,
+        (Transpose::No, Triangle::Upper) => false,
+        (Transpose::Yes, Triangle::Lower) => false,
+        (Transpose::Yes, Triangle::Upper) => true,
     }
 }

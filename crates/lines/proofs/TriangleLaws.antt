@@ -137,10 +137,6 @@ column-none q lo count a v e = record { same_length = refl; held = λ y h. let z
 
 -- ---- the loops: k columns of A are done
 
-pub row-length : {down : Bool} (n lo count to : ℕ) (a v ys : List Float) → RowOf down n lo count a (take (length v - to) (drop to v)) ys
-    → length (put_mid to (length v - to) v ys) ≡ length v
-row-length n lo count to a v ys h = same_len_mid to (length v - to) v ys h.same_length
-
 module _ (after down : Bool) (a : List Float) (lda x0 n : ℕ) where
   -- those are the coefficients of the elements below k
   abbrev pub Rows : ℕ → List Float → Type 0

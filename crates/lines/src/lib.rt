@@ -27,10 +27,10 @@ pub struct Grid {
 fn line_form(left: bool, side: bool) -> Form
     ensures { result ≡ line_form left side }
 {
-    if left {
-        if side { Form::Plain } else { Form::Transposed }
+    if left == side {
+        Form::Plain
     } else {
-        if side { Form::Transposed } else { Form::Plain }
+        Form::Transposed
     }
 }
 

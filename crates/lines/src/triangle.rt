@@ -9,22 +9,6 @@ use definitions::Transpose;
 use forms::Op;
 use packing::{factor, runs};
 
-// The first of the elements after element k, or before it.
-fn first_beside(after: bool, k: usize) -> usize
-    requires { k + 1 < 18446744073709551616 }
-    ensures { result ≡ (if after then k + 1 else 0) }
-{
-    if after { k + 1 } else { 0 }
-}
-
-// How many of n elements are after element k, or before it.
-fn count_beside(after: bool, n: usize, k: usize) -> usize
-    requires { k < n }
-    ensures { result ≡ (if after then n - 1 - k else k) }
-{
-    if after { n - 1 - k } else { k }
-}
-
 // The elements below count of a become the coefficients of the elements from lo on in one row of v, which has n of them.
 fn in_row(down: bool, n: usize, lo: usize, count: usize, a: &[f64], v: &mut [f64])
     requires { (lo + count ≤ n) × (n ≤ length v.old) × (count ≤ length a.now) }
@@ -56,8 +40,8 @@ fn by_columns(after: bool, down: bool, a: &[f64], lda: usize, x0: usize, n: usiz
     ensures { (length v.new ≡ length v.old) × ((i p : ℕ) → i < n → p < n → Beside after i p → at v.new (i * 64 + turn down n p) ≡ at a.now ((x0 + i) * lda + (x0 + p))) }
 {
     for k in 0..n {
-        let lo = first_beside(after, k);
-        let count = count_beside(after, n, k);
+        let lo = arrays::pick(after, k + 1, 0);
+        let count = arrays::pick(after, n - 1 - k, k);
         let from = (x0 + k) * lda + (x0 + lo);
         let to = k * 64;
         in_row(down, n, lo, count, &a[from..], &mut v[to..]);
@@ -70,8 +54,8 @@ fn by_rows(after: bool, down: bool, a: &[f64], lda: usize, x0: usize, n: usize, 
     ensures { (length v.new ≡ length v.old) × ((i p : ℕ) → i < n → p < n → Beside after p i → at v.new (i * 64 + turn down n p) ≡ at a.now ((x0 + p) * lda + (x0 + i))) }
 {
     for k in 0..n {
-        let lo = first_beside(after, k);
-        let count = count_beside(after, n, k);
+        let lo = arrays::pick(after, k + 1, 0);
+        let count = arrays::pick(after, n - 1 - k, k);
         let from = (x0 + k) * lda + (x0 + lo);
         let q = factor::turn_of(down, n, k);
         in_column(q, lo, count, &a[from..], v);

@@ -36,11 +36,8 @@ pub record Span (after : Bool) (n j lo count : ℕ) : Type 0 where
   pub inside : (i : ℕ) → i < count → has after j (lo + i) ≡ true
   pub behind : (p : ℕ) → lo + count ≤ p → p < n → has after j p ≡ false
 
-pub span_of : (after : Bool) (n j lo count : ℕ) → j < n → (after ≡ true → lo ≡ j) × (after ≡ false → lo ≡ 0) → (after ≡ true → count + j ≡ n) × (after ≡ false → count ≡ j + 1)
-    → Span after n j lo count
-span_of true n j lo count h f g =
-    let el : lo ≡ j = f.0 refl in
-    let ec : count + j ≡ n = g.0 refl in
+pub span_of : (after : Bool) (n j lo count : ℕ) → j < n → lo ≡ (if after then j else 0) → count ≡ (if after then n - j else j + 1) → Span after n j lo count
+span_of true n j lo count h el ec =
     record {
       low = omega arith;
       high = omega arith;
@@ -48,9 +45,7 @@ span_of true n j lo count h f g =
       inside = λ i b. has-after j (lo + i) refl (omega arith);
       behind = λ p b k. let z : ⊥ = omega arith in absurd z;
     }
-span_of false n j lo count h f g =
-    let el : lo ≡ 0 = f.1 refl in
-    let ec : count ≡ j + 1 = g.1 refl in
+span_of false n j lo count h el ec =
     record {
       low = omega arith;
       high = omega arith;

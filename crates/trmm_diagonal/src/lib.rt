@@ -38,29 +38,14 @@ pub fn pivot(diag: Diagonal, a: Op, p: usize) -> f64
     }
 }
 
-// The first of the block's elements whose term element j has,
-fn first_term(after: bool, j: usize) -> usize
-    ensures { (after ≡ true → result ≡ j) × (after ≡ false → result ≡ 0) }
-{
-    if after { j } else { 0 }
-}
-
-// and how many of its n elements they are.
-fn terms(after: bool, n: usize, j: usize) -> usize
-    requires { (j < n) × (n ≤ 64) }
-    ensures { (after ≡ true → result + j ≡ n) × (after ≡ false → result ≡ j + 1) }
-{
-    if after { n - j } else { j + 1 }
-}
-
 // The terms of n elements for these elements themselves, whose sums stand across in s, as one small triangle; u and v hold the factors.
 fn walk(after: bool, s: &mut [f64], lines: usize, n: usize, u: &[f64], v: &[f64])
     requires { (n ≤ 64) × (lines ≤ 64) × (n * 64 ≤ length s.old) × (n * 64 ≤ length u.now) × (n * 64 + n ≤ length v.now + 64) }
     ensures { s.new ≡ update (grid false 64 n lines (λ q l e. held_terms after n u.now v.now q l e)) s.old }
 {
     for j in 0..n {
-        let lo = first_term(after, j);
-        let count = terms(after, n, j);
+        let lo = arrays::pick(after, j, 0);
+        let count = arrays::pick(after, n - j, j + 1);
         let to = j * 64;
         let x = lo * 64;
         let y = j * 64 + lo;

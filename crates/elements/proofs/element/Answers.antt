@@ -15,15 +15,10 @@ stand c =
 
 inside : (c : After-pick-sa) → (p : ℕ) → let args = c.args in p < args.g.m → args.i * c.pick-row.result + p * c.pick-sa.result < length args.a.cells.now
 inside c p =
-    let stand : let args = c.args in Strides args.g.left args.a.t args.a.ld c.pick-row.result c.pick-sa.result = let args = c.args in strides args.g.left args.a.t args.a.ld c.are_columns-columns.ensures c.pick-row.ensures c.pick-sa.ensures in
-    let args = c.args in
-    coefficient-inside args.g.left args.a.t _ _ _ _ p _ _ (stand) c.requires.by_index c.requires.room.1
+    let args = c.args in coefficient-inside args.g.left args.a.t _ _ _ _ p _ _ (stand c) c.requires.by_index c.requires.room.1
 
 first : (c : After-pick-sa) → let args = c.args in args.i * c.pick-row.result < length args.a.cells.now
-first c =
-    let stand : let args = c.args in Strides args.g.left args.a.t args.a.ld c.pick-row.result c.pick-sa.result = let args = c.args in strides args.g.left args.a.t args.a.ld c.are_columns-columns.ensures c.pick-row.ensures c.pick-sa.ensures in
-    let inside : (p : ℕ) → let args = c.args in p < args.g.m → args.i * c.pick-row.result + p * c.pick-sa.result < length args.a.cells.now = λ p. let args = c.args in coefficient-inside args.g.left args.a.t _ _ _ _ p _ _ (stand) c.requires.by_index c.requires.room.1 in
-    omega (arith, inside 0 (omega (arith, c.requires.room.1)))
+first c = omega (arith, inside c 0 (omega (arith, c.requires.room.1)))
 
 pub overflow_mul-x : goal.overflow_mul-x
 overflow_mul-x c = omega (arith, first (goal.at.overflow_mul-x c).After-pick-sa)

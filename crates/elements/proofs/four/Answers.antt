@@ -15,9 +15,7 @@ inside c q h =
 
 -- element i is, and its place in memory is a number of the machine
 here : (c : After-pick-step) → (c.args.i * c.pick-step.result + 3 * c.pick-across.result < length c.args.b.now) × (length c.args.b.now * 8 < 18446744073709551616)
-here c =
-    let inside : (q : ℕ) → q < c.args.g.m → q * c.pick-step.result + 3 * c.pick-across.result < length c.args.b.now = λ q h. strides-inside c.args.g.left c.args.g.ld c.args.g.m 4 (length c.args.b.now) q 3 c.pick-across.ensures c.pick-step.ensures c.requires.0 h (omega arith) in
-    (inside c.args.i c.requires.1, omega arith)
+here c = (inside c c.args.i c.requires.1, omega arith)
 
 pub terms-r-requires : goal.terms-r-requires
 terms-r-requires c = (c.requires.2, λ k h. ((c.requires.3 k h).1, inside (goal.at.terms-r-requires c).After-pick-step _ (c.requires.3 k h).0))

@@ -4,18 +4,18 @@ use Rattle.definitions.specs.Storage.{op_triangle}
 use Rattle.definitions.specs.Element.{solves_up}
 use Rattle.forms.proofs.op_lower.Goals as goal
 
-pub returns-in-No : goal.returns-in-No
+pub returns-in-No-Lower : goal.returns-in-No-Lower
 unfolding solves_up op_triangle
-returns-in-No c = rw (c.in-Lower.is, c.in-No.is) refl
+returns-in-No-Lower c = rw (c.in-No-Lower.is-0, c.in-No-Lower.is-1) refl
 
-pub returns-in-Yes : goal.returns-in-Yes
+pub returns-in-No-Upper : goal.returns-in-No-Upper
 unfolding solves_up op_triangle
-returns-in-Yes c = rw (c.in-Lower.is, c.in-Yes.is) refl
+returns-in-No-Upper c = rw (c.in-No-Upper.is-0, c.in-No-Upper.is-1) refl
 
-pub returns-in-No-t : goal.returns-in-No-t
+pub returns-in-Yes-Lower : goal.returns-in-Yes-Lower
 unfolding solves_up op_triangle
-returns-in-No-t c = rw (c.in-Upper.is, c.in-No-t.is) refl
+returns-in-Yes-Lower c = rw (c.in-Yes-Lower.is-0, c.in-Yes-Lower.is-1) refl
 
-pub returns-in-Yes-t : goal.returns-in-Yes-t
+pub returns-in-Yes-Upper : goal.returns-in-Yes-Upper
 unfolding solves_up op_triangle
-returns-in-Yes-t c = rw (c.in-Upper.is, c.in-Yes-t.is) refl
+returns-in-Yes-Upper c = rw (c.in-Yes-Upper.is-0, c.in-Yes-Upper.is-1) refl

@@ -1,6 +1,6 @@
--- `finish` meets its contract, for each end.
+-- `Formula::finish` meets its contract, for each end.
 use Rattle.elements.specs.Sums.{finished}
-use Rattle.elements.proofs.finish.Goals as goal
+use Rattle.elements.proofs.Formula.finish.Goals as goal
 
 pub returns-in-Sum : goal.returns-in-Sum
 unfolding finished

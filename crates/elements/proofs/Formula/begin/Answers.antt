@@ -1,7 +1,7 @@
--- `begin` meets its contract, for each start.
+-- `Formula::begin` meets its contract, for each start.
 use lib.Ieee.{of_bits}
 use Rattle.elements.specs.Sums.{begun}
-use Rattle.elements.proofs.begin.Goals as goal
+use Rattle.elements.proofs.Formula.begin.Goals as goal
 
 pub returns-in-Value : goal.returns-in-Value
 unfolding begun
