@@ -9,7 +9,7 @@ use lib.Dec.{ltb}
 use lib.IntN.{ℤ, pos, negsuc}
 use borrow.Author.Tests.{lt-ltb, le-ltb}
 use Rattle.std.specs.Prelude.{Option, Some, None, unwrap_or, option_map, MatchOption, IsSomeAnd}
-use Rattle.arrays.specs.Search.{lowest, Lowest, Found, lower, answer, reported, earlier}
+use Rattle.arrays.specs.Search.{lowest, Lowest, Found, lower, answer, answer_of, earlier}
 use Rattle.arrays.proofs.Tests.{or-both, or-first, or-second, if-true, if-false, by-test}
 use Rattle.arrays.proofs.UpdateLaws.{lt-or-ge}
 
@@ -90,10 +90,10 @@ earlier-assoc (pos i) y z = refl
 earlier-assoc (negsuc i) y z = refl
 
 -- the answer for the lowest index
-pub found-answer : (test : ℕ → Bool) (n : ℕ) (r : Option ℕ) → Found test n r → reported r ≡ answer n (lowest test n)
-unfolding reported answer
+pub found-answer : (test : ℕ → Bool) (n : ℕ) (r : Option ℕ) → Found test n r → answer_of r ≡ answer n (lowest test n)
+unfolding answer_of answer
 found-answer test n r h = number r h ∙ ap (answer n) (lowest-only test n (unwrap_or r n) (found-lowest test n r h))
   where
-    number : (r : Option ℕ) → Found test n r → reported r ≡ answer n (unwrap_or r n)
+    number : (r : Option ℕ) → Found test n r → answer_of r ≡ answer n (unwrap_or r n)
     number None h = sym (if-false (ltb n n) _ _ (le-ltb n n (omega arith)))
     number (Some r) h = sym (if-true (ltb r n) _ _ (lt-ltb r n h.0))

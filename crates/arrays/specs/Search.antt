@@ -5,7 +5,7 @@
 --     lower     the lower of two indices, either of which may be missing
 --     none      the answer where there is no index: −1
 --     answer    the answer for an index below n, or for n
---     reported  the answer for an index that may be missing
+--     answer_of the answer for an index that may be missing
 --     earlier   of two answers the first, or the second if the first is −1
 use Rattle.std.specs.Prelude.{◌≡◌, Bool, true, false, ℕ, zero, suc, ◌≤◌, ◌<◌, ltb, min, ℤ, pos, negsuc, if◌then◌else◌, Option, Some, None}
 
@@ -33,9 +33,9 @@ none = negsuc 0
 unfoldable pub answer : ℕ → ℕ → ℤ
 answer n i = if ltb i n then pos i else none
 
-unfoldable pub reported : Option ℕ → ℤ
-reported None = none
-reported (Some i) = pos i
+unfoldable pub answer_of : Option ℕ → ℤ
+answer_of None = none
+answer_of (Some i) = pos i
 
 unfoldable pub earlier : ℤ → ℤ → ℤ
 earlier (pos i) z = pos i

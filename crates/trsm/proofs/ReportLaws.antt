@@ -11,7 +11,7 @@ use lib.ListN.{length}
 use lib.Ieee.{Float, nan}
 use borrow.Author.Tests.{ne_eqb}
 use Rattle.std.specs.Prelude.{Option, Some, None, IfSome}
-use Rattle.arrays.specs.Search.{lowest, Found, none, answer, reported}
+use Rattle.arrays.specs.Search.{lowest, Found, none, answer, answer_of}
 use Rattle.arrays.proofs.Tests.{if-true, if-false, by-test}
 use Rattle.arrays.proofs.UpdateLaws.{lt-or-ge}
 use Rattle.arrays.proofs.SearchLaws.{found-same, found-answer}
@@ -69,8 +69,8 @@ module _ (c : Call) (s : Side) (es : c.side ≡ s) (a : List Float) (lenb lenc :
   on-diagonal z found e =
       found-same _ _ m z (λ i b. ap₂ (λ (t : Bool) (d : Float). not t && by_zero c.diag d) e (ap (at a) (diagonal-index c.transa c.lda i))) found
 
-  pub zero-reported : (z : Option ℕ) → Zero c.diag z → reported z ≡ zero_of Trsm c a
-  unfolding reported zero_of zero_on_diagonal order
+  pub zero-reported : (z : Option ℕ) → Zero c.diag z → answer_of z ≡ zero_of Trsm c a
+  unfolding answer_of zero_of zero_on_diagonal order
   zero-reported z found =
       by-test (is_zero c.alpha)
       (λ e. nothing z found e ∙ sym (if-true (empty c || is_zero c.alpha) none _ (not-empty ∙ e)))
@@ -79,6 +79,6 @@ module _ (c : Call) (s : Side) (es : c.side ≡ s) (a : List Float) (lenb lenc :
       ∙ ap (λ (s : Side). answer (by_side s c.m c.n) (lowest on_diagonal (by_side s c.m c.n))) (sym es)
       ∙ sym (if-false (empty c || is_zero c.alpha) none _ (not-empty ∙ e)))
     where
-      nothing : (z : Option ℕ) → Zero c.diag z → is_zero c.alpha ≡ true → reported z ≡ none
+      nothing : (z : Option ℕ) → Zero c.diag z → is_zero c.alpha ≡ true → answer_of z ≡ none
       nothing None found e = refl
       nothing (Some i) found e = absurd (none_found c.diag i found e)

@@ -4,7 +4,7 @@
 
 ghost use Rattle.std.specs.Prelude.{◌≡◌, Bool, false, not, ◌&&◌, List, ℕ, ◌+◌, ◌*◌, ◌≤◌, ◌<◌, length, IfSome, Float};
 ghost use Rattle.arrays.specs.Update.{update};
-ghost use Rattle.arrays.specs.Search.{Found, reported};
+ghost use Rattle.arrays.specs.Search.{Found, answer_of};
 ghost use Rattle.floats.specs.Array.{at};
 ghost use Rattle.definitions.specs.Number.{is_zero};
 ghost use Rattle.definitions.specs.Call.{by_side, extent};
@@ -174,7 +174,7 @@ fn solve_lines(g: Grid, by: Divisor, alpha: Scalar, b: &mut [f64], r: usize) -> 
 // The index as a number, or -1 if there is none.
 fn report(z: Option<usize>) -> i32
     requires { IfSome z (λ i. i < 2147483648) }
-    ensures { result ≡ reported z }
+    ensures { result ≡ answer_of z }
 {
     match z {
         Some(i) => i as i32,
