@@ -1,16 +1,16 @@
 -- The search for an index: the lowest one is the only index that satisfies what it does, and searches are joined.
 -- Assumes nothing.
-use mathlib.Core.Path.{◌≡◌, refl, sym, subst, ◌∙◌}
-use mathlib.Core.Bool.{Bool, true, false, ◌&&◌, ◌||◌, true≢false}
+use mathlib.Core.Path.{◌≡◌, refl, sym, ap, ◌∙◌}
+use mathlib.Core.Bool.{Bool, false, ◌||◌, true≢false}
 use mathlib.Core.Logic.{⊎_elim}
-use Prim.Native.Nat.{ℕ, zero, suc, ◌<◌}
+use Prim.Native.Nat.{ℕ, zero, suc, ◌<◌, min}
 use native.Mathlib.Omega.{arith}
 use lib.Dec.{ltb}
 use lib.IntN.{ℤ, pos, negsuc}
-use borrow.Author.Tests.{ltb-true, ltb-false}
-use Rattle.std.specs.Prelude.{if◌then◌else◌}
-use Rattle.arrays.specs.Search.{lowest, Lowest, lower, earlier}
-use Rattle.arrays.proofs.Tests.{and_left, and_right, and-true, or-both, or-first, or-second, if-true, by-test}
+use borrow.Author.Tests.{lt-ltb, le-ltb}
+use Rattle.std.specs.Prelude.{Option, Some, None, unwrap_or, option_map, MatchOption, IsSomeAnd}
+use Rattle.arrays.specs.Search.{lowest, Lowest, Found, lower, answer, answer_of, earlier}
+use Rattle.arrays.proofs.Tests.{or-both, or-first, or-second, if-true, if-false, by-test}
 use Rattle.arrays.proofs.UpdateLaws.{lt-or-ge}
 
 -- ---- the lowest index
@@ -41,49 +41,46 @@ lowest-only test n r h =
     ⊎_elim (λ b. absurd (not-below test n r _ h k b))
     (λ b. ⊎_elim (λ c. absurd (not-below test n _ r k h c)) (λ c. let e : r ≡ lowest test n = omega arith in e) (lt-or-ge (lowest test n) r)) (lt-or-ge r (lowest test n))
 
--- two searches by tests that agree below n
-pub lowest-same : (test test' : ℕ → Bool) (n r : ℕ) → ((i : ℕ) → i < n → test i ≡ test' i) → Lowest test n r → Lowest test' n r
-lowest-same test test' n r e h = record {
-  within = h.within;
-  passes = λ b. sym (e r b) ∙ h.passes b;
-  before = λ i b. sym (e i (omega (arith, h.within))) ∙ h.before i b;
-}
-
 -- no index passes
 pub lowest-none : (test : ℕ → Bool) (n : ℕ) → ((i : ℕ) → i < n → test i ≡ false) → Lowest test n n
 lowest-none test n e = record { within = omega arith; passes = λ b. absurd (let f : ⊥ = omega arith in f); before = e }
 
--- a test of two parts: r is the lowest index of the one part, and i, if it was found, of the other
-module _ (one other : ℕ → Bool) (n r : ℕ) (found : Bool) (i : ℕ) (h : Lowest one n r) (k : Lowest other n (if found then i else n)) where
+-- ---- an index that may be missing
+
+-- the index, or n if there is none
+pub found-lowest : (test : ℕ → Bool) (n : ℕ) (r : Option ℕ) → Found test n r → Lowest test n (unwrap_or r n)
+found-lowest test n None h = lowest-none test n h
+found-lowest test n (Some r) h = record { within = omega (arith, h.0); passes = λ _. h.1; before = h.2 }
+
+-- two searches by tests that agree below n
+pub found-same : (test test' : ℕ → Bool) (n : ℕ) (r : Option ℕ) → ((i : ℕ) → i < n → test i ≡ test' i) → Found test n r → Found test' n r
+found-same test test' n None e h = λ i b. sym (e i b) ∙ h i b
+found-same test test' n (Some r) e h = (h.0, sym (e r h.0) ∙ h.1, λ i b. sym (e i (omega (arith, h.0))) ∙ h.2 i b)
+
+-- what `map` hands back, by a closure that gives f
+pub mapped : (f : ℕ → ℕ) (P : ℕ → ℕ → Type 0) → ((x y : ℕ) → P x y → y ≡ f x) → (z r : Option ℕ) → MatchOption z (r ≡ None) (λ x. IsSomeAnd r (P x)) → r ≡ option_map f z
+mapped f P g None r h = h
+mapped f P g (Some x) (Some y) h = ap Some (g x y h)
+mapped f P g (Some x) None h = absurd h
+
+-- a test of two parts: the lower of what is found by each
+module _ (one other : ℕ → Bool) (n : ℕ) where
   abbrev both : ℕ → Bool
   both j = one j || other j
 
-  is-lower : (found && ltb i r) ≡ true → Lowest both n i
-  is-lower t =
-      let b = ltb-true i r (and_right found (ltb i r) t) in
-      let o = subst (λ (x : ℕ). Lowest other n x) (if-true found i n (and_left found (ltb i r) t)) k in
-      record {
-        within = o.within;
-        passes = λ c. or-second (one i) (other i) (o.passes c);
-        before = λ j c. or-both (one j) (other j) (h.before j (omega arith)) (o.before j c);
-      }
-
-  is-not : (found && ltb i r) ≡ false → Lowest both n r
-  is-not t = record {
-    within = h.within;
-    passes = λ c. or-first (one r) (other r) (h.passes c);
-    before = λ j c. or-both (one j) (other j) (h.before j c) (k.before j (not_lower j c));
-  }
-    where
-      not_lower : (j : ℕ) → j < r → j < (if found then i else n)
-      not_lower j c =
-          by-test found
-          (λ f. rw f (let z = ltb-false i r (sym (and-true found (ltb i r) f) ∙ t) in omega arith))
-          (λ f. rw f (omega (arith, h.within)))
-
-  pub lower-joins : Lowest both n (lower r found i)
+  pub lower-joins : (r s : Option ℕ) → Found one n r → Found other n s → Found both n (lower r s)
   unfolding lower
-  lower-joins = by-test (found && ltb i r) (λ t. rw t (is-lower t)) (λ t. rw t (is-not t))
+  lower-joins None None h k = λ i b. or-both (one i) (other i) (h i b) (k i b)
+  lower-joins None (Some s) h k = (k.0, or-second (one s) (other s) k.1, λ i b. or-both (one i) (other i) (h i (omega (arith, k.0))) (k.2 i b))
+  lower-joins (Some r) None h k = (h.0, or-first (one r) (other r) h.1, λ i b. or-both (one i) (other i) (h.2 i b) (k i (omega (arith, h.0))))
+  lower-joins (Some r) (Some s) h k = (
+    omega (arith, h.0),
+    ⊎_elim
+        (λ (b : r < s). let e : min r s ≡ r = omega arith in rw e (or-first (one r) (other r) h.1))
+        (λ b. let e : min r s ≡ s = omega arith in rw e (or-second (one s) (other s) k.1))
+        (lt-or-ge r s),
+    λ i b. or-both (one i) (other i) (h.2 i (omega arith)) (k.2 i (omega arith)),
+  )
 
 -- ---- answers
 
@@ -91,3 +88,12 @@ pub earlier-assoc : (x y z : ℤ) → earlier (earlier x y) z ≡ earlier x (ear
 unfolding earlier
 earlier-assoc (pos i) y z = refl
 earlier-assoc (negsuc i) y z = refl
+
+-- the answer for the lowest index
+pub found-answer : (test : ℕ → Bool) (n : ℕ) (r : Option ℕ) → Found test n r → answer_of r ≡ answer n (lowest test n)
+unfolding answer_of answer
+found-answer test n r h = number r h ∙ ap (answer n) (lowest-only test n (unwrap_or r n) (found-lowest test n r h))
+  where
+    number : (r : Option ℕ) → Found test n r → answer_of r ≡ answer n (unwrap_or r n)
+    number None h = sym (if-false (ltb n n) _ _ (le-ltb n n (omega arith)))
+    number (Some r) h = sym (if-true (ltb r n) _ _ (lt-ltb r n h.0))

@@ -12,9 +12,6 @@ pub and_right : (a b : Bool) → (a && b) ≡ true → b ≡ true
 and_right true b h = h
 and_right false b h = absurd (true≢false (sym h))
 
-pub and-true : (a b : Bool) → a ≡ true → (a && b) ≡ b
-and-true a b h = rw h refl
-
 pub or_left : (a b : Bool) → (a || b) ≡ false → a ≡ false
 or_left true b h = h
 or_left false b h = refl

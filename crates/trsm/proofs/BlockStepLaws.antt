@@ -18,7 +18,7 @@ use Rattle.definitions.specs.declared.Diagonal.{Diagonal}
 use Rattle.packing.specs.Factor.{Matrix, turn}
 use Rattle.lines.specs.Lines.{cell, grid, within, line_term, Room}
 use Rattle.lines.proofs.GridLaws.{grid-at}
-use Rattle.trsm_diagonal.specs.Solve.{first, ordered, front, solve_term, solve_end, block_value}
+use Rattle.trsm_diagonal.specs.Solve.{first, ordered, front, solve_term, solve_end, block_from, block_value}
 use Rattle.trsm_diagonal.proofs.FactorLaws.{shifted-term}
 use Rattle.trsm_diagonal.proofs.OrderLaws.{turn-from}
 use Rattle.trsm_diagonal.proofs.BlockLaws.{block-step, lent-block}
@@ -27,7 +27,7 @@ use Rattle.trsm.specs.Steps.{Step}
 module _ (left down : Bool) (ld m lines : ℕ) (diag : Diagonal) (T : Matrix) (p n x0 : ℕ) (b : List Float)
     (pos : 0 < ld) (low : p + n ≤ m) (ex : x0 ≡ first down m p n) (room : Room left ld m lines (length b)) where
   abbrev block : Matrix
-  block i j = T (x0 + i) (x0 + j)
+  block = block_from x0 T
 
   block-term : (q s : ℕ) → s < q → q < n → (e x : Float) → solve_term left down m T (p + q) e (p + s) x ≡ solve_term left down n block q e s x
   unfolding solve_term

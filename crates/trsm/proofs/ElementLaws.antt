@@ -62,10 +62,10 @@ module _ (left down : Bool) (ld m lines : ℕ) (diag : Diagonal) (t : Transpose)
   -- one more: the j-th, which has index i
   pub element-step : (alpha : Float) (end : End) (i j from : ℕ) (b c : List Float) → alpha ≡ −1f → i ≡ turn down m j → from ≡ turn down m 0 → j < m
       → Room left ld m lines (length b)
-      → ((left : Bool) (alpha e y : Float) → finished left alpha end e y ≡ divided diag e (at a (i * lda + i)))
+      → ((left : Bool) (alpha e y : Float) → finished left alpha end e y ≡ divided diag e (T i i))
       → Summed left ld m lines i alpha Value end (λ p. coefficient left T i (along down from p)) (along down from) j b c
       → Step left down ld m lines diag T (λ k. front j j (front m 0 k)) (λ k. front (j + 1) (j + 1) (front m 0 k)) b c
-  unfolding ordered solve_term solve_end sum_after line_sum begun entry_of
+  unfolding ordered solve_term solve_end sum_after line_sum begun
   element-step alpha end i j from b c ea ei ef low room ends ec start k b₀ eb =
       block-ended nan term finish left down ld m lines start b₀ pos j 1 (front m 0 k) (λ q l y. sum l y) b c
       (λ q l lo up hl.
@@ -97,8 +97,7 @@ module _ (left down : Bool) (ld m lines : ℕ) (diag : Diagonal) (t : Transpose)
       solved l hl =
           ap (sum l) (ap (λ (n : ℕ). state_of nan term finish (start l) n j) (front-in m 0 k j low) ∙ state-start nan term finish (start l) j)
           ∙ ends left alpha _ _
-          ∙ ap₂ (λ (e : Float) (x : ℕ). divided diag e (at a x)) (fold_same _ _ j (start l j) (λ p hp e. solve-term l p e hl hp))
-          (sym (diagonal-index t lda i) ∙ ap (λ (x : ℕ). index_of (op_form t) lda x x) ei)
+          ∙ ap₂ (λ (e : Float) (x : ℕ). divided diag e (T x x)) (fold_same _ _ j (start l j) (λ p hp e. solve-term l p e hl hp)) ei
           ∙ sym (value-is nan term finish (start l) j)
 
   -- all are solved

@@ -5,10 +5,9 @@ use mathlib.Core.Path.{◌≡◌, sym, ap, ap₂, ◌∙◌}
 use mathlib.Core.List.{List}
 use Prim.Native.Nat.{ℕ, ◌<◌}
 use lib.Ieee.{Float, nan}
-use Rattle.std.specs.Prelude.{if◌then◌else◌}
-use Rattle.arrays.specs.Search.{Lowest}
+use Rattle.std.specs.Prelude.{if◌then◌else◌, Option, None}
+use Rattle.arrays.specs.Search.{Found}
 use Rattle.arrays.specs.Update.{update, region}
-use Rattle.arrays.proofs.SearchLaws.{lowest-none}
 use Rattle.arrays.proofs.Tests.{if-true, if-false}
 use Rattle.floats.specs.Array.{at}
 use Rattle.floats.specs.Operations.{◌⊗◌, 0f}
@@ -36,19 +35,19 @@ module _ (left down : Bool) (ld m lines : ℕ) (diag : Diagonal) (alpha : Scalar
   values i l _ = line_value left down m diag alpha T (λ p. at b (cell left ld p l)) i
 
   -- their values, and the lowest index at which the diagonal is zero
-  abbrev Done : ℕ → Type 0
-  Done x = (c ≡ update (grid left ld m lines values) b) × Lowest (λ i. not (is_zero alpha) && by_zero diag (T i i)) m x
+  abbrev Done : Option ℕ → Type 0
+  Done x = (c ≡ update (grid left ld m lines values) b) × Found (λ i. not (is_zero alpha) && by_zero diag (T i i)) m x
 
-  pub all-cleared : is_zero alpha ≡ true → c ≡ update (region ld rows cols (λ i j x. 0f)) b → Done m
+  pub all-cleared : is_zero alpha ≡ true → c ≡ update (region ld rows cols (λ i j x. 0f)) b → Done None
   unfolding line_value
   all-cleared z e = (
     e ∙ ap (λ (f : ℕ → Float → Float). update f b) (all-elements left ld m lines rows cols (λ x. 0f) er ec)
         ∙ grid-same left ld m lines _ _ b pos (λ i l hi hl x. sym (if-true (is_zero alpha) _ _ z)),
-    lowest-none _ m (λ i h. rw z),
+    λ i h. rw z,
   )
 
-  pub all_done : is_zero alpha ≡ false → (s : Float) (d : List Float) (x : ℕ) → s ≡ factor alpha → d ≡ update (region ld rows cols (λ i j x. s ⊗ x)) b
-      → Step left down ld m lines diag T (front m 0) (front m m) d c × Lowest (λ i. by_zero diag (T i i)) m x → Done x
+  pub all_done : is_zero alpha ≡ false → (s : Float) (d : List Float) (x : Option ℕ) → s ≡ factor alpha → d ≡ update (region ld rows cols (λ i j x. s ⊗ x)) b
+      → Step left down ld m lines diag T (front m 0) (front m m) d c × Found (λ i. by_zero diag (T i i)) m x → Done x
   unfolding line_value ordered
   all_done z s d x es ed solve = (
     all-solved nan (solve_term left down m T) (solve_end diag down m T) left down ld m lines start b pos (λ q. 0) c

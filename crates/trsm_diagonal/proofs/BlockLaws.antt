@@ -14,12 +14,11 @@ use Rattle.arrays.specs.Update.{update}
 use Rattle.arrays.specs.Fold.{fold}
 use Rattle.arrays.proofs.UpdateLaws.{length-update}
 use Rattle.arrays.proofs.FoldLaws.{fold_same}
-use Rattle.arrays.proofs.PartLaws.{tail_at, tail-length}
+use Rattle.arrays.proofs.PartLaws.{tail_at}
 use Rattle.floats.specs.Array.{at}
 use Rattle.definitions.specs.declared.Transpose.{Transpose}
 use Rattle.definitions.specs.declared.Transpose.TheVariants.{No, Yes}
 use Rattle.packing.specs.Factor.{index_of, entry_of, turn}
-use Rattle.packing.specs.declared.Form.TheVariants.{Plain}
 use Rattle.forms.specs.Forms.{op_form}
 use Rattle.packing.proofs.FactorLaws.{turn_below}
 use Rattle.lines.specs.Lines.{cell, grid, within, Room}
@@ -36,20 +35,9 @@ unfolding index_of
 diagonal-index No ld i = refl
 diagonal-index Yes ld i = refl
 
--- that of the block, in the part of A that starts with it
-module _ (t : Transpose) (a : List Float) (ld x0 i : ℕ) where
-  abbrev from : ℕ
-  from = x0 * ld + x0
-
-  place : from + (i * ld + i) ≡ index_of (op_form t) ld (x0 + i) (x0 + i)
-  place = rw (diagonal-index t ld (x0 + i), add-mul x0 i ld) (omega arith)
-
-  pub diagonal-inside : index_of (op_form t) ld (x0 + i) (x0 + i) < length a → i * ld + i < length (take (length a - from) (drop from a))
-  diagonal-inside h = omega (arith, place, tail-length from a)
-
-  pub diagonal-part : entry_of Plain (take (length a - from) (drop from a)) ld i i ≡ entry_of (op_form t) a ld (x0 + i) (x0 + i)
-  unfolding entry_of index_of
-  diagonal-part = tail_at from a (i * ld + i) nan ∙ ap (at a) place
+pub diagonal-entry : (t : Transpose) (a : List Float) (ld i : ℕ) → at a (i * ld + i) ≡ entry_of (op_form t) a ld i i
+unfolding entry_of
+diagonal-entry t a ld i = ap (at a) (sym (diagonal-index t ld i))
 
 -- ---- the block by itself: `line` has its lines, by element
 

@@ -1,7 +1,7 @@
 -- The factors of the terms of a diagonal block, and the end of a sum.
 -- Assumes nothing.
 use mathlib.Core.Bool.{Bool, true, false}
-use mathlib.Core.Path.{◌≡◌, refl, sym, ap, ap₂, ◌∙◌}
+use mathlib.Core.Path.{◌≡◌, refl, sym, ap, ◌∙◌}
 use mathlib.Core.List.{List}
 use Prim.Native.Nat.{ℕ, ◌+◌, ◌*◌, ◌<◌, ◌≤◌}
 use native.Mathlib.Omega.{arith}
@@ -17,10 +17,9 @@ use Rattle.definitions.specs.Element.{divided}
 use Rattle.definitions.specs.declared.Diagonal.{Diagonal}
 use Rattle.definitions.specs.declared.Diagonal.TheVariants.{Unit, Nonunit}
 use Rattle.packing.specs.Factor.{Matrix, turn}
-use Rattle.packing.proofs.FactorLaws.{turn_below}
 use Rattle.lines.specs.Lines.{cell, grid, line_term, coefficient, Beside}
 use Rattle.lines.proofs.GridLaws.{grid-at}
-use Rattle.trsm_diagonal.specs.Solve.{sum_after, solve_term, solve_end, value_factor, matrix_factor, packed_term, block_value, packed_value}
+use Rattle.trsm_diagonal.specs.Solve.{sum_after, solve_term, solve_end, value_factor, matrix_factor, packed_term, block_value, packed_value, block_from}
 use Rattle.trsm_diagonal.proofs.StateLaws.{value-is, value-only}
 
 -- ---- a term by its two factors
@@ -89,25 +88,23 @@ module _ {diag : Diagonal} (n : ℕ) (f : ℕ → Float → Float) (d : Float) (
 -- ---- the values of a block, by its factors
 
 -- a term of the block that starts at x0
-pub shifted-term : (left : Bool) (T : Matrix) (x0 i j : ℕ) (e x : Float) → line_term left −1f (λ i j. T (x0 + i) (x0 + j)) i e j x ≡ line_term left −1f T (x0 + i) e (x0 + j) x
+pub shifted-term : (left : Bool) (T : Matrix) (x0 i j : ℕ) (e x : Float) → line_term left −1f (block_from x0 T) i e j x ≡ line_term left −1f T (x0 + i) e (x0 + j) x
 unfolding line_term
 shifted-term true T x0 i j e x = refl
 shifted-term false T x0 i j e x = refl
 
-pub packed-is : (left down : Bool) (n x0 : ℕ) (diag : Diagonal) (T D : Matrix) (v : List Float) (s : ℕ → Float)
-    → ((i : ℕ) → i < n → D i i ≡ T (x0 + i) (x0 + i))
+pub packed-is : (left down : Bool) (n x0 : ℕ) (diag : Diagonal) (T : Matrix) (v : List Float) (s : ℕ → Float)
     → ((q p : ℕ) → p < q → q < n → at v (turn down n q * 64 + p) ≡ matrix_factor left (coefficient left T (x0 + turn down n q) (x0 + turn down n p)))
-    → (q : ℕ) → q < n → packed_value left down n diag D v s q ≡ block_value left down n diag (λ i j. T (x0 + i) (x0 + j)) s q
+    → (q : ℕ) → q < n → packed_value left down n diag (block_from x0 T) v s q ≡ block_value left down n diag (block_from x0 T) s q
 unfolding packed_value block_value packed_term solve_term solve_end sum_after
-packed-is left down n x0 diag T D v s diagonal factors q hq =
-    value-only nan (solve_term left down n (λ i j. T (x0 + i) (x0 + j))) (solve_end diag down n (λ i j. T (x0 + i) (x0 + j))) (λ q. s (turn down n q)) (packed_value left down n diag D v s) n
+packed-is left down n x0 diag T v s factors q hq =
+    value-only nan (solve_term left down n (block_from x0 T)) (solve_end diag down n (block_from x0 T)) (λ q. s (turn down n q)) (packed_value left down n diag (block_from x0 T) v s) n
     (λ q hq.
-    value-is nan (packed_term left down n v) (solve_end diag down n D) (λ q. s (turn down n q)) q
-    ∙ ap₂ (λ (e y : Float). divided diag e y)
+    value-is nan (packed_term left down n v) (solve_end diag down n (block_from x0 T)) (λ q. s (turn down n q)) q
+    ∙ ap (λ (e : Float). divided diag e (T (x0 + turn down n q) (x0 + turn down n q)))
     (fold_same _ _ q _
     (λ p hp e.
-    ap (λ (y : Float). e ⊕ y ⊗ value_factor left (packed_value left down n diag D v s p)) (factors q p hp hq)
-    ∙ sym (term_is left T (x0 + turn down n q) (x0 + turn down n p) e (packed_value left down n diag D v s p))
-    ∙ sym (shifted-term left T x0 (turn down n q) (turn down n p) e (packed_value left down n diag D v s p))))
-    (diagonal (turn down n q) (turn_below down n q hq)))
+    ap (λ (y : Float). e ⊕ y ⊗ value_factor left (packed_value left down n diag (block_from x0 T) v s p)) (factors q p hp hq)
+    ∙ sym (term_is left T (x0 + turn down n q) (x0 + turn down n p) e (packed_value left down n diag (block_from x0 T) v s p))
+    ∙ sym (shifted-term left T x0 (turn down n q) (turn down n p) e (packed_value left down n diag (block_from x0 T) v s p)))))
     q hq

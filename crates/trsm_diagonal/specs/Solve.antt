@@ -10,6 +10,7 @@
 --     solve_term   a term of TRSM; T is op(A) as A is stored
 --     solve_end    the end of a sum of TRSM: the division
 --     value_factor, matrix_factor   the two factors of a term: -1.0 is with the value of the unknown for side L, and with the entry of op(A) for side R
+--     block_from   the block of a matrix that starts at its entry (x0, x0)
 --     block_value  the value of unknown q of a diagonal block T of order n; s is what the sums of a line start with, by element
 --     packed_term, packed_value   a term and a value of such a block by factors: row i of v has those of the entries for element i, in the order of solving, and D has the diagonal
 --     zero_among   the divisions by zero of the unknowns from the p-th on and below the e-th, by index
@@ -71,6 +72,9 @@ matrix_factor false y = −1f ⊗ y
 
 unfoldable pub packed_term : Bool → Bool → ℕ → List Float → ℕ → Float → ℕ → Float → Float
 packed_term left down n v q e p x = e ⊕ at v (turn down n q * 64 + p) ⊗ value_factor left x
+
+abbrev pub block_from : ℕ → Matrix → Matrix
+block_from x0 T i j = T (x0 + i) (x0 + j)
 
 unfoldable pub block_value : Bool → Bool → ℕ → Diagonal → Matrix → (ℕ → Float) → ℕ → Float
 block_value left down n diag T s q = solution nan (solve_term left down n T) (solve_end diag down n T) (λ q. s (turn down n q)) q

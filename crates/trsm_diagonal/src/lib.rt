@@ -1,24 +1,32 @@
 // The unknowns of one diagonal block, whose lines stand across: they are solved in order, a group of them and then the next. Each function that solves hands back
-// the lowest index at which the diagonal is zero, or one past the last if there is none.
+// the lowest index at which the diagonal is zero, if there is one.
 #![tactic(auto)]
 
 ghost use Rattle.std.specs.Prelude.{◌≡◌, false, ℕ, ◌+◌, ◌*◌, ◌≤◌, ◌<◌, length};
 ghost use Rattle.arrays.specs.Update.{update, below};
 ghost use Rattle.arrays.specs.Search as Search;
-ghost use Rattle.arrays.specs.Search.{Lowest};
+ghost use Rattle.arrays.specs.Search.{Found};
 ghost use Rattle.floats.specs.Array.{at};
 ghost use Rattle.definitions.specs.Element.{divided, by_zero};
-ghost use Rattle.packing.specs.Factor.{index_of, entry_of, turn};
-ghost use Rattle.packing.specs.declared.Form.TheVariants.{Plain};
+ghost use Rattle.packing.specs.Factor.{index_of, turn};
 ghost use Rattle.blocks.specs.Terms.{packed};
-ghost use Rattle.forms.specs.Forms.{op_form};
+ghost use Rattle.forms.specs.Forms.{op_form, op_matrix};
 ghost use Rattle.lines.specs.Lines.{cell, grid, coefficient, Room};
-ghost use Rattle.trsm_diagonal.specs.Solve.{first, ordered, value_factor, matrix_factor, block_value, packed_value};
+ghost use Rattle.trsm_diagonal.specs.Solve.{first, ordered, value_factor, matrix_factor, block_from, block_value, packed_value};
 
 use blocks::{block, pass};
-use definitions::{Diagonal, Transpose};
-use lines::triangle;
+use definitions::Diagonal;
+use forms::Op;
+use lines::{Grid, triangle};
 use packing::{factor, runs};
+
+// What TRSM divides a line by: op(A), of which one triangle is stored. If `down`, the unknowns are solved from the last index down, else from the first up.
+#[derive(Clone, Copy)]
+pub struct Divisor<'a> {
+    pub a: Op<'a>,
+    pub diag: Diagonal,
+    pub down: bool,
+}
 
 // The least index of the unknowns from the p-th on, n of them.
 pub fn least(down: bool, m: usize, p: usize, n: usize) -> usize
@@ -29,55 +37,48 @@ pub fn least(down: bool, m: usize, p: usize, n: usize) -> usize
 }
 
 // The entries of op(A) as factors of a diagonal block's terms, times -1.0 for side R: row i of v has those of element x0 + i, in the order of solving.
-fn matrix_factors(
-    left: bool,
-    down: bool,
-    t: Transpose,
-    a: &[f64],
-    lda: usize,
-    x0: usize,
-    n: usize,
-    v: &mut [f64],
-)
-    requires { (n ≤ 64) × (x0 + n < 18446744073709551616) × (4096 ≤ length v.old) × ((i j : ℕ) → i < n → j < n → index_of (op_form t) lda (x0 + i) (x0 + j) < length a.now) }
-    ensures { (q s : ℕ) → s < q → q < n → at v.new (turn down n q * 64 + s) ≡ matrix_factor left (coefficient left (entry_of (op_form t) a.now lda) (x0 + turn down n q) (x0 + turn down n s)) }
+fn matrix_factors(left: bool, by: Divisor, x0: usize, n: usize, v: &mut [f64])
+    requires { (n ≤ 64) × (x0 + n < 18446744073709551616) × (4096 ≤ length v.old) × ((i j : ℕ) → i < n → j < n → index_of (op_form by.a.t) by.a.ld (x0 + i) (x0 + j) < length by.a.cells.now) }
+    ensures { (q s : ℕ) → s < q → q < n → at v.new (turn by.entry.down n q * 64 + s) ≡ matrix_factor left (coefficient left (op_matrix by.entry.a) (x0 + turn by.entry.down n q) (x0 + turn by.entry.down n s)) }
 {
-    triangle::coefficients(left, down, down, t, a, lda, x0, n, v);
+    triangle::coefficients(left, by.down, by.down, by.a, x0, n, v);
     if left {
         return;
     }
     pass::scale(v, 64, n, n, -1.0);
 }
 
-// The index i if it was found and is below r, else r.
-pub fn lower(r: usize, found: bool, i: usize) -> usize
-    ensures { result ≡ Search.lower r found i }
+// The lower of two indices, either of which may be missing.
+pub fn lower(a: Option<usize>, b: Option<usize>) -> Option<usize>
+    ensures { result ≡ Search.lower a b }
 {
-    if found & (i < r) { i } else { r }
+    match (a, b) {
+        (Some(i), Some(j)) => Some(i.min(j)),
+        _ => a.or(b),
+    }
 }
 
-// One unknown of all lines: the terms of the j before it, and then the division by a[k], unless the diagonal is unit. It hands back whether that is by zero.
+// Unknown i of all lines: the terms of the j before it, and then the division by entry (i, i), unless the diagonal is unit. It hands back whether that is by zero.
 fn solve_unknown(
-    diag: Diagonal,
+    by: Divisor,
     s: &mut [f64],
     lines: usize,
     j: usize,
     u: &[f64],
     v: &[f64],
-    a: &[f64],
-    k: usize,
+    i: usize,
 ) -> bool
-    requires { (lines ≤ length s.old) × (lines ≤ 64) × (j * 64 + lines ≤ length u.now + 64) × (j ≤ length v.now) × (k < length a.now) }
-    ensures { (s.new ≡ update (below lines (λ l e. divided diag (packed j u.now v.now l 0 e) (at a.now k))) s.old)
-        × (result ≡ by_zero diag (at a.now k)) }
+    requires { (lines ≤ length s.old) × (lines ≤ 64) × (j * 64 + lines ≤ length u.now + 64) × (j ≤ length v.now) × (i * by.a.ld + i < length by.a.cells.now) }
+    ensures { (s.new ≡ update (below lines (λ l e. divided by.entry.diag (packed j u.now v.now l 0 e) (op_matrix by.entry.a i i))) s.old)
+        × (result ≡ by_zero by.entry.diag (op_matrix by.entry.a i i)) }
 {
-    match diag {
+    match by.diag {
         Diagonal::Unit => {
             block::column(s, lines, j, u, v);
             false
         }
         Diagonal::Nonunit => {
-            let d = a[k];
+            let d = by.a.cells[i * by.a.ld + i];
             block::column(s, lines, j, u, v);
             pass::divide_column(s, lines, d)
         }
@@ -95,127 +96,77 @@ fn value_factors(left: bool, u: &mut [f64], lines: usize, s: &[f64])
     }
 }
 
-// The n unknowns of a small triangle that starts at a[0], one after the other. Lines stand across in s, element i of line l at i * ld + l; v has the factors of the entries, and u takes those of
-// the unknowns.
+// The unknowns of a small triangle, from element x0 on, g.m of them, one after the other. On either side lines stand across in s, element x0 + i of line l at i * g.ld + l; v has the factors
+// of the entries, and u takes those of the unknowns.
 fn solve_unknowns(
-    left: bool,
-    down: bool,
-    diag: Diagonal,
+    g: Grid,
+    by: Divisor,
+    x0: usize,
     s: &mut [f64],
-    ld: usize,
-    lines: usize,
-    n: usize,
-    a: &[f64],
-    lda: usize,
     u: &mut [f64],
     v: &[f64],
-) -> usize
-    requires n_bound { (n ≤ 64) × (0 < lines) × (lines ≤ 64) × (n * 64 ≤ length u.old) × (n * 64 + n ≤ length v.now + 64) × ((i : ℕ) → i < n → i * lda + i < length a.now) }
-    requires room { Room false ld n lines (length s.old) }
-    ensures { (s.new ≡ update (ordered false down ld n lines (λ q l _. packed_value left down n diag (entry_of Plain a.now lda) v.now (λ i. at s.old (cell false ld i l)) q)) s.old)
-        × (u.new ≡ update (grid false 64 n lines (λ q l _. value_factor left (packed_value left down n diag (entry_of Plain a.now lda) v.now (λ i. at s.old (cell false ld i l)) q))) u.old)
-        × Lowest (λ i. by_zero diag (entry_of Plain a.now lda i i)) n result }
+) -> Option<usize>
+    requires m_bound { (g.m ≤ 64) × (0 < g.lines) × (g.lines ≤ 64) × (g.m * 64 ≤ length u.old) × (g.m * 64 + g.m ≤ length v.now + 64) × ((i : ℕ) → i < g.m → (x0 + i) * by.a.ld + (x0 + i) < length by.a.cells.now) }
+    requires room { Room false g.ld g.m g.lines (length s.old) }
+    ensures { (s.new ≡ update (ordered false by.entry.down g.ld g.m g.lines (λ q l _. packed_value g.left by.entry.down g.m by.entry.diag (block_from x0 (op_matrix by.entry.a)) v.now (λ i. at s.old (cell false g.ld i l)) q)) s.old)
+        × (u.new ≡ update (grid false 64 g.m g.lines (λ q l _. value_factor g.left (packed_value g.left by.entry.down g.m by.entry.diag (block_from x0 (op_matrix by.entry.a)) v.now (λ i. at s.old (cell false g.ld i l)) q))) u.old)
+        × Found (λ i. by_zero by.entry.diag (op_matrix by.entry.a (x0 + i) (x0 + i))) g.m result }
 {
-    let mut zero = n;
-    let mut j = 0;
-    while j < n {
-        let i = factor::turn_of(down, n, j);
-        let to = i * ld;
+    let mut zero = None;
+    for j in 0..g.m {
+        let i = factor::turn_of(by.down, g.m, j);
+        let to = i * g.ld;
         let row = i * 64;
         let x = j * 64;
-        let k = i * lda + i;
-        let found = solve_unknown(diag, &mut s[to..], lines, j, u, &v[row..], a, k);
-        value_factors(left, &mut u[x..], lines, &s[to..]);
-        zero = lower(zero, found, i);
-        j += 1;
+        let found = solve_unknown(by, &mut s[to..], g.lines, j, u, &v[row..], x0 + i);
+        value_factors(g.left, &mut u[x..], g.lines, &s[to..]);
+        zero = lower(zero, found.then_some(i));
     }
     zero
 }
 
-// The n unknowns of the diagonal block that starts at a[0], some of them at a time: the terms of all before these are a product of packed blocks, and with
-// their own they are a small triangle.
+// The unknowns of a diagonal block, some of them at a time: the terms of all before these are a product of packed blocks, and with their own they are a small
+// triangle. A `while`: `block::small` says how far each goes.
 fn solve_groups(
-    left: bool,
-    down: bool,
-    diag: Diagonal,
+    g: Grid,
+    by: Divisor,
+    x0: usize,
     s: &mut [f64],
-    ld: usize,
-    lines: usize,
-    n: usize,
-    a: &[f64],
-    lda: usize,
     u: &mut [f64],
     v: &[f64],
-) -> usize
-    requires n_bound { (n ≤ 64) × (0 < lines) × (lines ≤ 64) × (4096 ≤ length u.old) × (4096 ≤ length v.now) × ((i : ℕ) → i < n → i * lda + i < length a.now) }
-    requires room { Room false ld n lines (length s.old) }
-    ensures { (s.new ≡ update (ordered false down ld n lines (λ q l _. packed_value left down n diag (entry_of Plain a.now lda) v.now (λ i. at s.old (cell false ld i l)) q)) s.old)
-        × Lowest (λ i. by_zero diag (entry_of Plain a.now lda i i)) n result }
+) -> Option<usize>
+    requires m_bound { (g.m ≤ 64) × (0 < g.lines) × (g.lines ≤ 64) × (4096 ≤ length u.old) × (4096 ≤ length v.now) × ((i : ℕ) → i < g.m → (x0 + i) * by.a.ld + (x0 + i) < length by.a.cells.now) }
+    requires room { Room false g.ld g.m g.lines (length s.old) }
+    ensures { (s.new ≡ update (ordered false by.entry.down g.ld g.m g.lines (λ q l _. packed_value g.left by.entry.down g.m by.entry.diag (block_from x0 (op_matrix by.entry.a)) v.now (λ i. at s.old (cell false g.ld i l)) q)) s.old)
+        × Found (λ i. by_zero by.entry.diag (op_matrix by.entry.a (x0 + i) (x0 + i))) g.m result }
 {
-    let mut zero = n;
+    let mut zero = None;
     let mut j = 0;
-    while j < n {
-        let h = block::small(n - j);
-        let y = least(down, n, j, h);
-        let to = y * ld;
+    while j < g.m {
+        let h = block::small(g.m - j);
+        let y = least(by.down, g.m, j, h);
+        let to = y * g.ld;
         let row = y * 64;
         let x = j * 64;
         let w = row + j;
-        let k = y * lda + y;
-        block::block(&mut s[to..], ld, lines, h, j, u, &v[row..]);
-        let z = solve_unknowns(
-            left,
-            down,
-            diag,
-            &mut s[to..],
-            ld,
-            lines,
-            h,
-            &a[k..],
-            lda,
-            &mut u[x..],
-            &v[w..],
-        );
-        zero = lower(zero, z < h, y + z);
+        block::block(&mut s[to..], g.ld, g.lines, h, j, u, &v[row..]);
+        let group = Grid { m: h, ..g };
+        let z = solve_unknowns(group, by, x0 + y, &mut s[to..], &mut u[x..], &v[w..]);
+        zero = lower(zero, z.map(|i| y + i));
         j += h;
     }
     zero
 }
 
-// The unknowns of the diagonal block from element x0 on, n of them, whose lines stand across in s.
-pub fn solve_across(
-    left: bool,
-    down: bool,
-    diag: Diagonal,
-    s: &mut [f64],
-    ld: usize,
-    lines: usize,
-    t: Transpose,
-    a: &[f64],
-    lda: usize,
-    x0: usize,
-    n: usize,
-) -> usize
-    requires n_nonzero { (0 < n) × (n ≤ 64) × (0 < lines) × (lines ≤ 64) × (x0 + n < 18446744073709551616) × ((i j : ℕ) → i < n → j < n → index_of (op_form t) lda (x0 + i) (x0 + j) < length a.now) }
-    requires room { Room false ld n lines (length s.old) }
-    ensures { (s.new ≡ update (ordered false down ld n lines (λ q l _. block_value left down n diag (λ i j. entry_of (op_form t) a.now lda (x0 + i) (x0 + j)) (λ i. at s.old (cell false ld i l)) q)) s.old)
-        × Lowest (λ i. by_zero diag (entry_of (op_form t) a.now lda (x0 + i) (x0 + i))) n result }
+// The unknowns of the diagonal block from element x0 on, g.m of them. On either side their lines stand across in s.
+pub fn solve_across(g: Grid, by: Divisor, s: &mut [f64], x0: usize) -> Option<usize>
+    requires m_nonzero { (0 < g.m) × (g.m ≤ 64) × (0 < g.lines) × (g.lines ≤ 64) × (x0 + g.m < 18446744073709551616) × ((i j : ℕ) → i < g.m → j < g.m → index_of (op_form by.a.t) by.a.ld (x0 + i) (x0 + j) < length by.a.cells.now) }
+    requires room { Room false g.ld g.m g.lines (length s.old) }
+    ensures { (s.new ≡ update (ordered false by.entry.down g.ld g.m g.lines (λ q l _. block_value g.left by.entry.down g.m by.entry.diag (block_from x0 (op_matrix by.entry.a)) (λ i. at s.old (cell false g.ld i l)) q)) s.old)
+        × Found (λ i. by_zero by.entry.diag (op_matrix by.entry.a (x0 + i) (x0 + i))) g.m result }
 {
     let mut u = [0.0f64; 4096];
     let mut v = [0.0f64; 4096];
-    matrix_factors(left, down, t, a, lda, x0, n, &mut v);
-    let from = x0 * lda + x0;
-    solve_groups(
-        left,
-        down,
-        diag,
-        s,
-        ld,
-        lines,
-        n,
-        &a[from..],
-        lda,
-        &mut u,
-        &v,
-    )
+    matrix_factors(g.left, by, x0, g.m, &mut v);
+    solve_groups(g, by, x0, s, &mut u, &v)
 }

@@ -1,15 +1,14 @@
 -- `report` hands back the index as a number.
 use mathlib.Core.Path.{◌∙◌}
-use borrow.Author.Tests.{lt-ltb, le-ltb}
 use mir.Syntax.{w32}
 use mir.ValLaws.{to_z_pos}
-use Rattle.arrays.specs.Search.{answer}
+use Rattle.arrays.specs.Search.{answer_of}
 use Rattle.trsm.proofs.report.Goals as goal
 
-pub returns-then-z-m : goal.returns-then-z-m
-unfolding answer
-returns-then-z-m c = to_z_pos w32 c.args.z (c.requires c.if-z-m.true) ∙ rw (lt-ltb _ _ c.if-z-m.true)
+pub returns-in-Some : goal.returns-in-Some
+unfolding answer_of
+returns-in-Some c = to_z_pos w32 c.in-Some.i (rw c.in-Some.is at c.requires) ∙ rw c.in-Some.is
 
-pub returns-else-z-m : goal.returns-else-z-m
-unfolding answer
-returns-else-z-m c = rw (le-ltb _ _ c.if-z-m.false)
+pub returns-in-None : goal.returns-in-None
+unfolding answer_of
+returns-in-None c = rw c.in-None.is

@@ -35,7 +35,7 @@ solve_lines-requires c =
 
 pub report-requires : goal.report-requires
 unfolding by_side
-report-requires c = zero-small c.args.call Left c.in-Left.is c.args.a.now _ _ _ c.requires.by_index.1 _ c.solve_lines.ensures.1 (omega (arith, c.well_formed)) (fits-left (goal.at.report-requires c).In-Left).reads
+report-requires c = zero-small c.args.call Left c.in-Left.is c.args.a.now _ _ c.requires.by_index.1 _ _ c.solve_lines.ensures.1 (omega (arith, c.well_formed)) (fits-left (goal.at.report-requires c).In-Left).reads
 
 pub solve_lines-requires-in-Right : goal.solve_lines-requires-in-Right
 solve_lines-requires-in-Right c =
@@ -47,7 +47,7 @@ solve_lines-requires-in-Right c =
 
 pub report-requires-in-Right : goal.report-requires-in-Right
 unfolding by_side
-report-requires-in-Right c = zero-small c.args.call Right c.in-Right.is c.args.a.now _ _ _ c.requires.by_index.1 _ c.solve_lines-in-Right.ensures.1 (omega (arith, c.well_formed)) (fits-right (goal.at.report-requires-in-Right c).In-Right).reads
+report-requires-in-Right c = zero-small c.args.call Right c.in-Right.is c.args.a.now _ _ c.requires.by_index.1 _ _ c.solve_lines-in-Right.ensures.1 (omega (arith, c.well_formed)) (fits-right (goal.at.report-requires-in-Right c).In-Right).reads
 
 pub returns-in-Left : goal.returns-in-Left
 unfolding by_side
@@ -55,7 +55,7 @@ returns-in-Left c =
     let g = c.args in
     let k = fits-left (goal.at.returns-in-Left c).In-Left in (
       λ b. left_is g.call g.a.now b g.from g.lines _ g.b.now _ c.requires.by_index.1.routine-is (way-left g.call.transa g.call.uplo c.op_lower-low.ensures c.in-Left.is) k.some-rows k.fit c.in-Left.is k.within c.solve_lines.ensures.0,
-      to_z-of_z w32 c.report.result (record { sfits = c.report.type_inv }) ∙ c.report.ensures ∙ zero-reported g.call Left c.in-Left.is g.a.now _ _ _ c.requires.by_index.1 c.solve_lines.ensures.1,
+      to_z-of_z w32 c.report.result (record { sfits = c.report.type_inv }) ∙ c.report.ensures ∙ zero-reported g.call Left c.in-Left.is g.a.now _ _ c.requires.by_index.1 _ c.solve_lines.ensures.1,
     )
 
 pub returns-in-Right : goal.returns-in-Right
@@ -64,5 +64,5 @@ returns-in-Right c =
     let g = c.args in
     let k = fits-right (goal.at.returns-in-Right c).In-Right in (
       λ b. right_is g.call g.a.now b g.from g.lines _ g.b.now _ c.requires.by_index.1.routine-is (way-right g.call.transa g.call.uplo c.op_lower-low.ensures c.in-Right.is) k.some-rows k.fit c.in-Right.is k.within c.solve_lines-in-Right.ensures.0,
-      to_z-of_z w32 c.report-in-Right.result (record { sfits = c.report-in-Right.type_inv }) ∙ c.report-in-Right.ensures ∙ zero-reported g.call Right c.in-Right.is g.a.now _ _ _ c.requires.by_index.1 c.solve_lines-in-Right.ensures.1,
+      to_z-of_z w32 c.report-in-Right.result (record { sfits = c.report-in-Right.type_inv }) ∙ c.report-in-Right.ensures ∙ zero-reported g.call Right c.in-Right.is g.a.now _ _ c.requires.by_index.1 _ c.solve_lines-in-Right.ensures.1,
     )

@@ -1,8 +1,7 @@
 -- `update_rest` adds the terms of solved unknowns: the sums of those below the i-th have them.
-use Prim.Native.Nat.{ℕ, ◌≤◌, ◌<◌, ◌+◌}
-use mathlib.Core.Path.{◌≡◌, subst, ◌∙◌}
-use Rattle.packing.specs.Factor.{entry_of}
-use Rattle.forms.specs.Forms.{op_form}
+use Prim.Native.Nat.{ℕ, ◌+◌}
+use mathlib.Core.Path.{◌≡◌, subst}
+use Rattle.forms.specs.Forms.{op_matrix}
 use Rattle.lines.proofs.GridLaws.{some-ld}
 use Rattle.trsm_diagonal.specs.Solve.{front}
 use Rattle.trsm_diagonal.proofs.FactorLaws.{minus_one}
@@ -10,45 +9,37 @@ use Rattle.trsm.specs.Steps.{Step}
 use Rattle.trsm.proofs.StepLaws.{terms-more, terms-done}
 use native.Mathlib.Omega.{arith}
 use Rattle.trsm.proofs.update_rest.Goals as goal
-use Rattle.trsm.proofs.update_rest.Goals.{After-smaller-h}
-
--- in a turn: h unknowns from the i-th on
-record Turn (i h p n m : ℕ) : Type 0 where
-  some : 0 < h
-  from : p + n ≤ i
-  within : i + h ≤ m
-
-turn : (c : After-smaller-h) → Turn c.loop-i.i c.smaller-h.result c.args.p c.args.n c.args.m
-turn c =
-    record { some = c.smaller-h.ensures.2 (c.reach-w.ensures.1 (omega arith)) (omega arith); from = omega arith; within = omega arith }
+use Rattle.trsm.proofs.update_rest.Goals.{After-add_terms}
 
 -- nothing is left
-pub returns-then-i-m : goal.returns-then-i-m
-returns-then-i-m c =
-    let g = c.args in
-    let e : g.p + g.n ≡ g.m = c.if-i-m.true in
-    λ diag. terms-done g.left g.down g.ld g.m g.lines diag (entry_of (op_form g.t) g.a.now g.lda) (some-ld g.left g.ld g.m g.lines _ (omega arith) (omega arith) c.requires.room)
-    g.p g.n g.m g.b.now g.b.now
-    (subst (λ (i : ℕ). Step g.left g.down g.ld g.m g.lines diag (entry_of (op_form g.t) g.a.now g.lda) (λ k. front (g.p + g.n) (g.p + g.n) (front g.m g.p k)) (λ k. front i (g.p + g.n) (front g.m g.p k)) g.b.now g.b.now) e
+pub returns-then-p-n : goal.returns-then-p-n
+returns-then-p-n c =
+    let args = c.args in
+    let e : args.p + args.n ≡ args.g.m = c.if-p-n.true in
+    terms-done args.g.left args.by.down args.g.ld args.g.m args.g.lines args.by.diag (op_matrix args.by.a) (some-ld args.g.left args.g.ld args.g.m args.g.lines _ (omega arith) (omega arith) c.requires.room)
+    args.p args.n args.g.m args.b.now args.b.now
+    (subst (λ (i : ℕ). Step args.g.left args.by.down args.g.ld args.g.m args.g.lines args.by.diag (op_matrix args.by.a) (λ k. front (args.p + args.n) (args.p + args.n) (front args.g.m args.p k)) (λ k. front i (args.p + args.n) (front args.g.m args.p k)) args.b.now args.b.now) e
     (λ start k l h. h))
+
+-- after it those below the e-th have the terms
+more : (c : After-add_terms) (e : ℕ) → e ≡ c.loop-i.i + c.min-h.result
+    → let args = c.args in
+    Step args.g.left args.by.down args.g.ld args.g.m args.g.lines args.by.diag (op_matrix args.by.a) (λ k. front (args.p + args.n) (args.p + args.n) (front args.g.m args.p k)) (λ k. front e (args.p + args.n) (front args.g.m args.p k)) args.b.now c.add_terms.new.b
+more c e is =
+    let args = c.args in
+    rw is
+    (terms-more args.g.left args.by.down args.g.ld args.g.m args.g.lines args.by.diag (op_matrix args.by.a) (some-ld args.g.left args.g.ld args.g.m args.g.lines _ (omega arith) (omega (arith, c.requires)) c.requires.room)
+    _ args.p args.n args.g.m c.loop-i.i c.min-h.result c.least-x0.result c.least-y.result _ _ args.b.now c.loop-i.b _ minus_one (omega (arith, c.requires)) (omega (arith, c.requires)) (omega arith) (omega arith) (omega arith)
+    (omega arith) c.requires.room c.least-x0.ensures.0 c.least-y.ensures.0 c.take.ensures c.loop-i.invariant.2 c.add_terms.ensures)
 
 pub loop-i-preserved : goal.loop-i-preserved
 loop-i-preserved c =
-    let g = c.args in
-    let s = turn (goal.at.loop-i-preserved c).After-smaller-h in (
-      omega (arith, s),
-      omega (arith, s),
-      c.add_terms.auto.b ∙ c.loop-i.invariant.2,
-      λ diag. terms-more g.left g.down g.ld g.m g.lines diag (entry_of (op_form g.t) g.a.now g.lda) (some-ld g.left g.ld g.m g.lines _ (omega (arith, s)) (omega (arith, c.requires)) c.requires.room)
-          _ g.p g.n g.m c.loop-i.i c.smaller-h.result c.least-x0.result c.least-y.result _ _ g.b.now c.loop-i.b _ minus_one (omega (arith, c.requires)) (omega (arith, c.requires)) (omega (arith, s)) (omega (arith, s)) (omega arith)
-          (omega arith) c.requires.room c.least-x0.ensures.0 c.least-y.ensures.0 c.take.ensures (c.loop-i.invariant.3 diag) c.add_terms.ensures,
-    )
+    (omega arith, omega arith, more (goal.at.loop-i-preserved c).After-add_terms (c.loop-i.i + c.reach-w.result) (omega arith))
 
-pub returns : goal.returns
-returns c =
-    let g = c.args in
-    let e : c.loop-i.i ≡ g.m = omega arith in
-    λ diag. terms-done g.left g.down g.ld g.m g.lines diag (entry_of (op_form g.t) g.a.now g.lda) (some-ld g.left g.ld g.m g.lines _ (omega arith) (omega arith) c.requires.room)
-    g.p g.n g.m g.b.now c.loop-i.b
-    (subst (λ (i : ℕ). Step g.left g.down g.ld g.m g.lines diag (entry_of (op_form g.t) g.a.now g.lda) (λ k. front (g.p + g.n) (g.p + g.n) (front g.m g.p k)) (λ k. front i (g.p + g.n) (front g.m g.p k)) g.b.now c.loop-i.b) e
-    (c.loop-i.invariant.3 diag))
+-- that was the last turn
+pub returns-else-p-n-2 : goal.returns-else-p-n-2
+returns-else-p-n-2 c =
+    let args = c.args in
+    terms-done args.g.left args.by.down args.g.ld args.g.m args.g.lines args.by.diag (op_matrix args.by.a) (some-ld args.g.left args.g.ld args.g.m args.g.lines _ (omega arith) (omega arith) c.requires.room)
+    args.p args.n args.g.m args.b.now _
+    (more (goal.at.returns-else-p-n-2 c).After-add_terms args.g.m (omega arith))

@@ -2,26 +2,26 @@
 -- were divided by zero.
 use mathlib.Core.Path.{◌≡◌, refl, ap, ◌∙◌}
 use lib.ListN.{length}
+use Rattle.arrays.specs.Search.{lower}
 use Rattle.arrays.proofs.UpdateLaws.{length-update}
-use Rattle.packing.specs.Factor.{entry_of, index_of}
-use Rattle.packing.specs.declared.Form.TheVariants.{Plain}
+use Rattle.forms.specs.Forms.{op_matrix}
+use Rattle.trsm_diagonal.specs.Solve.{block_from}
 use Rattle.trsm_diagonal.proofs.AcrossLaws.{none-solved, none_kept, one-solved, one_kept, all-solved}
 use Rattle.trsm_diagonal.proofs.ZeroLaws.{zero-none, zero-unknown, zero-all}
 use native.Mathlib.Omega.{arith}
 use Rattle.trsm_diagonal.proofs.solve_unknowns.Goals as goal
 
 pub loop-j-init : goal.loop-j-init
-loop-j-init c = (omega arith, refl, refl, none-solved c.args.left c.args.down c.args.ld c.args.n c.args.lines c.args.diag (entry_of Plain c.args.a.now c.args.lda) c.args.v.now c.args.s.now c.args.u.now c.requires.n_bound.1 c.requires.room (omega arith, omega arith), none_kept c.args.left c.args.down c.args.ld c.args.n c.args.lines c.args.diag (entry_of Plain c.args.a.now c.args.lda) c.args.v.now c.args.s.now c.args.u.now c.requires.n_bound.1 c.requires.room (omega arith, omega arith), zero-none c.args.down c.args.n c.args.diag (entry_of Plain c.args.a.now c.args.lda))
+loop-j-init c = (refl, none-solved c.args.g.left c.args.by.down c.args.g.ld c.args.g.m c.args.g.lines c.args.by.diag (block_from c.args.x0 (op_matrix c.args.by.a)) c.args.v.now c.args.s.now c.args.u.now c.requires.m_bound.1 c.requires.room (omega arith, omega arith), none_kept c.args.g.left c.args.by.down c.args.g.ld c.args.g.m c.args.g.lines c.args.by.diag (block_from c.args.x0 (op_matrix c.args.by.a)) c.args.v.now c.args.s.now c.args.u.now c.requires.m_bound.1 c.requires.room (omega arith, omega arith), zero-none c.args.by.down c.args.g.m c.args.by.diag (block_from c.args.x0 (op_matrix c.args.by.a)))
 
 pub loop-j-preserved : goal.loop-j-preserved
-unfolding entry_of index_of
 loop-j-preserved c =
-    let solved = one-solved c.args.left c.args.down c.args.ld c.args.n c.args.lines c.args.diag (entry_of Plain c.args.a.now c.args.lda) c.args.v.now c.args.s.now c.args.u.now c.requires.n_bound.1 c.requires.room (omega (arith, c.requires), omega (arith, c.requires)) c.loop-j.j c.turn_of-i.result c.loop-j.u c.loop-j.s c.loop-j.invariant.3 c.loop-j.invariant.4 c.loop-j-test.true c.turn_of-i.ensures.0 _ c.solve_unknown-found.ensures.0 in
-    let kept = one_kept c.args.left c.args.down c.args.ld c.args.n c.args.lines c.args.diag (entry_of Plain c.args.a.now c.args.lda) c.args.v.now c.args.s.now c.args.u.now c.requires.n_bound.1 c.requires.room (omega (arith, c.requires), omega (arith, c.requires)) c.loop-j.j c.turn_of-i.result c.loop-j.u c.loop-j.s c.loop-j.invariant.3 c.loop-j.invariant.4 c.loop-j-test.true c.turn_of-i.ensures.0 _ _ solved c.value_factors.ensures in
-    let zero = zero-unknown c.args.down c.args.n c.args.diag (entry_of Plain c.args.a.now c.args.lda) c.loop-j.j c.turn_of-i.result c.loop-j.zero c.lower-zero.result _ c.loop-j-test.true c.turn_of-i.ensures.0 c.loop-j.invariant.5 c.solve_unknown-found.ensures.1 c.lower-zero.ensures in
-    (omega arith, ap length solved ∙ length-update _ _, ap length kept ∙ length-update _ _, solved, kept, zero)
+    let solved = one-solved c.args.g.left c.args.by.down c.args.g.ld c.args.g.m c.args.g.lines c.args.by.diag (block_from c.args.x0 (op_matrix c.args.by.a)) c.args.v.now c.args.s.now c.args.u.now c.requires.m_bound.1 c.requires.room (omega (arith, c.requires), omega (arith, c.requires)) c.loop-j.j c.turn_of-i.result c.loop-j.u c.loop-j.s c.loop-j.invariant.1 c.loop-j.invariant.2 (omega arith) c.turn_of-i.ensures.0 _ c.solve_unknown-found.ensures.0 in
+    let kept = one_kept c.args.g.left c.args.by.down c.args.g.ld c.args.g.m c.args.g.lines c.args.by.diag (block_from c.args.x0 (op_matrix c.args.by.a)) c.args.v.now c.args.s.now c.args.u.now c.requires.m_bound.1 c.requires.room (omega (arith, c.requires), omega (arith, c.requires)) c.loop-j.j c.turn_of-i.result c.loop-j.u c.loop-j.s c.loop-j.invariant.1 c.loop-j.invariant.2 (omega arith) c.turn_of-i.ensures.0 _ _ solved c.value_factors.ensures in
+    let zero = zero-unknown c.args.by.down c.args.g.m c.args.by.diag (block_from c.args.x0 (op_matrix c.args.by.a)) c.loop-j.j c.turn_of-i.result c.loop-j.zero _ c.solve_unknown-found.result (omega arith) c.turn_of-i.ensures.0 c.loop-j.invariant.3 c.solve_unknown-found.ensures.1 (c.lower-zero.ensures ∙ ap (lower c.loop-j.zero) c.then_some.ensures) in
+    (ap length solved ∙ length-update _ _, solved, kept, zero)
 
 pub returns : goal.returns
 returns c =
-    let e : c.loop-j.j ≡ c.args.n = omega arith in
-    (all-solved c.args.left c.args.down c.args.ld c.args.n c.args.lines c.args.diag (entry_of Plain c.args.a.now c.args.lda) c.args.v.now c.args.s.now c.args.u.now c.requires.n_bound.1 c.requires.room (omega (arith, c.requires), omega (arith, c.requires)) c.loop-j.s (rw e at c.loop-j.invariant.3), rw e at c.loop-j.invariant.4, zero-all c.args.down c.args.n c.args.diag (entry_of Plain c.args.a.now c.args.lda) c.loop-j.zero (rw e at c.loop-j.invariant.5))
+    let e : c.loop-j.j ≡ c.args.g.m = omega arith in
+    (all-solved c.args.g.left c.args.by.down c.args.g.ld c.args.g.m c.args.g.lines c.args.by.diag (block_from c.args.x0 (op_matrix c.args.by.a)) c.args.v.now c.args.s.now c.args.u.now c.requires.m_bound.1 c.requires.room (omega (arith, c.requires), omega (arith, c.requires)) c.loop-j.s (rw e at c.loop-j.invariant.1), (rw e at c.loop-j.invariant.2), zero-all c.args.by.down c.args.g.m c.args.by.diag (block_from c.args.x0 (op_matrix c.args.by.a)) c.loop-j.zero (rw e at c.loop-j.invariant.3))
