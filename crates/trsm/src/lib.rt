@@ -17,12 +17,14 @@ ghost use Rattle.elements.specs.Sums.{finished};
 ghost use Rattle.trsm_diagonal.specs.Solve.{front, zero_among};
 ghost use Rattle.trsm.specs.Steps.{line_value, Step};
 
+use arrays::Area;
 use blocks::pass;
 use definitions::{Call, Diagonal, Scalar, Side};
 use elements::{End, Formula, Start};
 use forms::Op;
 use lines::Grid;
 use packing::factor;
+use packing::factor::Run;
 use trsm_diagonal::Divisor;
 
 // How many sums take terms at a time: all of them for side L, at most 256 for side R.
@@ -130,7 +132,11 @@ fn solve_element(g: Grid, by: Divisor, b: &mut [f64], j: usize)
         end: end_of(by, i),
     };
     let from = factor::turn_of(by.down, g.m, 0);
-    elements::element(g, f, b, i, by.a, by.down, from, j);
+    let before = Run {
+        from,
+        down: by.down,
+    };
+    elements::element(g, f, b, i, by.a, before, j);
 }
 
 // All unknowns, one after the other, without buffers: for tiny calls.
@@ -160,11 +166,16 @@ fn solve_lines(g: Grid, by: Divisor, alpha: Scalar, b: &mut [f64], r: usize) -> 
 {
     let rows = arrays::pick(g.left, g.m, g.lines);
     let cols = arrays::pick(g.left, g.lines, g.m);
+    let area = Area {
+        ld: g.ld,
+        rows,
+        cols,
+    };
     if alpha.is_zero() {
-        pass::clear(b, g.ld, rows, cols);
+        pass::clear(b, area);
         return None;
     }
-    pass::scale(b, g.ld, rows, cols, alpha.factor());
+    pass::scale(b, area, alpha.factor());
     if direct::tiny(g.m, g.lines, g.m) {
         return solve_elements(g, by, b);
     }

@@ -14,6 +14,8 @@ ghost use Rattle.forms.specs.Forms.{op_form, op_matrix};
 ghost use Rattle.lines.specs.Lines.{cell, grid, coefficient, Room};
 ghost use Rattle.trsm_diagonal.specs.Solve.{first, ordered, value_factor, matrix_factor, block_from, block_value, packed_value};
 
+use arrays::Area;
+use arrays::pieces::Pieces;
 use blocks::{block, pass};
 use definitions::Diagonal;
 use forms::Op;
@@ -45,7 +47,12 @@ fn matrix_factors(left: bool, by: Divisor, x0: usize, n: usize, v: &mut [f64])
     if left {
         return;
     }
-    pass::scale(v, 64, n, n, -1.0);
+    let area = Area {
+        ld: 64,
+        rows: n,
+        cols: n,
+    };
+    pass::scale(v, area, -1.0);
 }
 
 // The lower of two indices, either of which may be missing.
@@ -126,7 +133,7 @@ fn solve_unknowns(
 }
 
 // The unknowns of a diagonal block, some of them at a time: the terms of all before these are a product of packed blocks, and with their own they are a small
-// triangle. A `while`: `block::small` says how far each goes.
+// triangle.
 fn solve_groups(
     g: Grid,
     by: Divisor,
@@ -141,19 +148,21 @@ fn solve_groups(
         × Found (λ i. by_zero by.entry.diag (op_matrix by.entry.a (x0 + i) (x0 + i))) g.m result }
 {
     let mut zero = None;
-    let mut j = 0;
-    while j < g.m {
-        let h = block::small(g.m - j);
+    for (j, h) in Pieces::of(g.m, block::SMALL) {
         let y = least(by.down, g.m, j, h);
         let to = y * g.ld;
         let row = y * 64;
         let x = j * 64;
         let w = row + j;
-        block::block(&mut s[to..], g.ld, g.lines, h, j, u, &v[row..]);
+        let area = Area {
+            ld: g.ld,
+            rows: g.lines,
+            cols: h,
+        };
+        block::block(&mut s[to..], area, j, u, &v[row..]);
         let group = Grid { m: h, ..g };
         let z = solve_unknowns(group, by, x0 + y, &mut s[to..], &mut u[x..], &v[w..]);
         zero = lower(zero, z.map(|i| y + i));
-        j += h;
     }
     zero
 }
