@@ -1,7 +1,7 @@
 -- The search for an index that passes a test, and its answer as a number.
 --     lowest    the lowest index below n that passes, or n if none does
 --     Lowest    what that index satisfies
---     Found     the lowest index below n that passes is r, or r is none and so passes
+--     Found     r is the lowest index below n that passes, or None if none does
 --     lower     the lower of two indices, either of which may be missing
 --     none      the answer where there is no index: −1
 --     answer    the answer for an index below n, or for n

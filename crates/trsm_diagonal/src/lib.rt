@@ -103,8 +103,8 @@ fn value_factors(left: bool, u: &mut [f64], lines: usize, s: &[f64])
     }
 }
 
-// The unknowns of a small triangle, from element x0 on, g.m of them, one after the other. On either side lines stand across in s, element x0 + i of line l at i * g.ld + l; v has the factors
-// of the entries, and u takes those of the unknowns.
+// The unknowns of a small triangle, from element x0 on, g.m of them, one after the other. On either side lines stand across in s, element x0 + i of line l at
+// i * g.ld + l; v has the factors of the entries, and u takes those of the unknowns.
 fn solve_unknowns(
     g: Grid,
     by: Divisor,
