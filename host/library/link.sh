@@ -57,8 +57,8 @@ if [ -f "$in/words" ] && once -march=x86-64 && once '.*\.bc' && once '.*\.o'; th
         function listed(name) { for (i in part) if (index(name "::", part[i] "::") == 1) return 1 }
         BEGIN { split(inlined, part, " ") }
         /^define / { name = $0 }
-        # A local array of a thousand bytes or more is a buffer.
-        { buffer = /alloca \[[0-9][0-9][0-9][0-9]+ x i8\], align 8$/ }
+        # A local array of 500 bytes or more is a buffer.
+        { buffer = /alloca \[([5-9][0-9][0-9]|[0-9][0-9][0-9][0-9]+) x i8\], align 8$/ }
         NR == FNR { if (buffer) apart[name]; next }
         buffer { sub(/8$/, "64") }
         /^define internal / {

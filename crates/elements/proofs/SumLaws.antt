@@ -4,8 +4,8 @@ use mathlib.Core.Bool.{Bool, true, false}
 use mathlib.Core.Path.{◌≡◌, refl, sym, ap, ap₂, subst, ◌∙◌}
 use mathlib.Core.Logic.{⊎_elim}
 use mathlib.Core.List.{List}
-use Prim.Native.Nat.{ℕ, zero, suc, ◌+◌, ◌-◌, ◌*◌, ◌/◌, ◌%◌, ◌<◌, ◌≤◌}
-use native.Mathlib.Nat.{div-add-mod', add-mul, suc-mul, mul-le-mul_right}
+use Prim.Native.Nat.{ℕ, ◌+◌, ◌-◌, ◌*◌, ◌/◌, ◌%◌, ◌<◌, ◌≤◌}
+use native.Mathlib.Nat.{div-add-mod', add-mul, mul-le-mul_right}
 use native.Mathlib.Numerals.{add-one}
 use native.Mathlib.Omega.{arith}
 use lib.Ieee.{Float, nan}
@@ -34,12 +34,6 @@ use Rattle.lines.proofs.GridLaws.{by-within, cell-inside, some-ld, grid-cell, gr
 fewer-lines : (left : Bool) (ld m lines l len : ℕ) → l ≤ lines → Room left ld m lines len → Room left ld m l len
 fewer-lines true ld m lines l len h r = (r.0, omega (arith, mul-le-mul_right ld h))
 fewer-lines false ld m lines l len h r = (omega arith, omega arith)
-
--- each line has an element
-pub lines-at-most : (left : Bool) (ld m lines len : ℕ) → 0 < m → Room left ld m lines len → lines ≤ len
-lines-at-most true ld m zero len h r = omega arith
-lines-at-most true ld m (suc l) len h r = let pos : 0 < ld = omega arith in omega (arith, suc-mul l ld, column-room l pos)
-lines-at-most false ld m lines len h r = omega (arith, column-room ld h)
 
 -- the lines from l on, n of them, as a part
 pub lines-room : (left : Bool) (ld m lines l n len : ℕ) {a across : ℕ} → 0 < m → 0 < n → l + n ≤ lines → across ≡ (if left then ld else 1) → a ≡ l * across

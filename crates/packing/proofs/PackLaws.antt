@@ -46,9 +46,6 @@ on-diagonal : (ld r c : ℕ) → c ≡ r → c * ld + r ≡ r * ld + c
 on-diagonal ld r c e = ap₂ (λ (s t : ℕ). s * ld + t) e (sym e)
 
 module _ {form : Form} {down across : Bool} (i ny j nx : ℕ) where
-  pub reads-entries : Reads form down across i ny j nx Entries
-  reads-entries = record { columns = λ z. let w = distinct z in absurd (let f : ⊥ = omega arith in f); rows = λ z. let w = distinct z in absurd (let f : ⊥ = omega arith in f); mirrored = λ z. let w = distinct z in absurd (let f : ⊥ = omega arith in f) }
-
   by-columns : ((ld y x : ℕ) → y < ny → x < nx → index_of form ld (along down i y) (along across j x) ≡ along across j x * ld + along down i y)
       → Reads form down across i ny j nx Columns
   by-columns h = record { columns = λ z. h; rows = λ z. let w = distinct z in absurd (let f : ⊥ = omega arith in f); mirrored = λ z. let w = distinct z in absurd (let f : ⊥ = omega arith in f) }
@@ -56,9 +53,6 @@ module _ {form : Form} {down across : Bool} (i ny j nx : ℕ) where
   by_rows : ((ld y x : ℕ) → y < ny → x < nx → index_of form ld (along down i y) (along across j x) ≡ along down i y * ld + along across j x)
       → Reads form down across i ny j nx Rows
   by_rows h = record { columns = λ z. let w = distinct z in absurd (let f : ⊥ = omega arith in f); rows = λ z. h; mirrored = λ z. let w = distinct z in absurd (let f : ⊥ = omega arith in f) }
-
-  pub reads-mirrored : is_mirrored form ≡ true → down ≡ false → across ≡ false → Reads form down across i ny j nx Mirrored
-  reads-mirrored e d a = record { columns = λ z. let w = distinct z in absurd (let f : ⊥ = omega arith in f); rows = λ z. let w = distinct z in absurd (let f : ⊥ = omega arith in f); mirrored = λ z. (e, d, a) }
 
   pub reads_plain : form ≡ Plain → Reads form down across i ny j nx Columns
   reads_plain e = by-columns (λ ld y x hy hx. index-plain ld _ _ e)

@@ -6,8 +6,7 @@ use mathlib.Core.Logic.{⊎_elim}
 use mathlib.Core.List.{List}
 use Prim.Native.Nat.{ℕ, ◌+◌, ◌*◌, ◌<◌, ◌≤◌}
 use native.Mathlib.Omega.{arith}
-use lib.ListN.{length, set, length-set}
-use lib.Seq.{get_or-set_same, get_or-set_other}
+use lib.ListN.{length}
 use lib.Ieee.{Float, nan}
 use borrow.Author.Tests.{leb-true, eq-eqb, ne_eqb}
 use Rattle.std.specs.Prelude.{if◌then◌else◌}
@@ -72,27 +71,6 @@ coefficient-own true T p = refl
 coefficient-own false T p = refl
 
 module _ (diag : Diagonal) (M : Matrix) (p₀ : ℕ) where
-  -- the entries of the diagonal, one by one
-  pub no-pivots : (v : List Float) → Pivots diag M p₀ 0 v v
-  no-pivots v = record { same_length = refl; own = λ i h. let z : ⊥ = omega arith in absurd z; others = λ i p h z. refl }
-
-  pub pivot-more : (v₀ v : List Float) (k : ℕ) (d : Float) → k < 64 → 4096 ≤ length v₀ → Pivots diag M p₀ k v₀ v
-      → d ≡ with_diagonal 1f diag M (p₀ + k) (p₀ + k)
-      → Pivots diag M p₀ (k + 1) v₀ (set v (k * 64 + k) d)
-  pivot-more v₀ v k d few room s ed =
-      record {
-        same_length = length-set v (k * 64 + k) d ∙ s.same_length;
-        own = λ i h.
-            ⊎_elim
-            (λ (z : i < k). get_or-set_other v (k * 64 + k) (i * 64 + i) d nan (λ y. omega arith) ∙ s.own i z)
-            (λ z.
-            let e : k ≡ i = omega arith in
-            subst (λ (j : ℕ). at (set v (k * 64 + k) d) (j * 64 + j) ≡ with_diagonal 1f diag M (p₀ + j) (p₀ + j)) e
-            (get_or-set_same v (k * 64 + k) d nan (omega (arith, s.same_length)) ∙ ed))
-            (lt-or-ge i k);
-        others = λ i p h z. get_or-set_other v (k * 64 + k) (i * 64 + p) d nan (λ y. z (omega arith)) ∙ s.others i p h z;
-      }
-
   -- all of the diagonal, in the place of the coefficients' own
   pub triangle-held : (left after : Bool) (n : ℕ) (v₀ v : List Float) → n ≤ 64
       → ((i p : ℕ) → i < n → p < n → Beside after i p → at v₀ (i * 64 + turn false n p) ≡ coefficient left M (p₀ + i) (p₀ + p))

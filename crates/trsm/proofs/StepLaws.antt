@@ -15,9 +15,7 @@ use Rattle.arrays.proofs.FoldLaws.{fold_same}
 use Rattle.floats.specs.Array.{at}
 use Rattle.floats.specs.Operations.{−1f}
 use Rattle.definitions.specs.declared.Diagonal.{Diagonal}
-use Rattle.definitions.specs.declared.Transpose.{Transpose}
-use Rattle.packing.specs.Factor.{Matrix, index_of, turn}
-use Rattle.forms.specs.Forms.{op_form}
+use Rattle.packing.specs.Factor.{Matrix, turn}
 use Rattle.packing.proofs.FactorLaws.{turn_below, turn-turn}
 use Rattle.lines.specs.Lines.{cell, grid, within, line_term, Room}
 use Rattle.lines.proofs.GridLaws.{grid-same, grid-at}
@@ -25,12 +23,6 @@ use Rattle.trsm_diagonal.specs.Solve.{first, ordered, front, solve_term, solve_e
 use Rattle.trsm_diagonal.proofs.OrderLaws.{turn-from, within-turn}
 use Rattle.trsm_diagonal.proofs.StateLaws.{narrower, wider, rest_more, held}
 use Rattle.trsm.specs.Steps.{Step}
-
--- what the term of element p for the sum of element i reads of A
-pub term-inside : (left : Bool) (t : Transpose) (ld len m i p : ℕ) → ((i j : ℕ) → i < m → j < m → index_of (op_form t) ld i j < len) → i < m → p < m
-    → (if left then index_of (op_form t) ld i p else index_of (op_form t) ld p i) < len
-term-inside true t ld len m i p inside hi hp = inside i p hi hp
-term-inside false t ld len m i p inside hi hp = inside p i hp hi
 
 -- a buffer has room for at most 64 elements of at most 64 lines
 buffer-room : (left : Bool) (n lines len : ℕ) → n ≤ 64 → lines ≤ 64 → 4096 ≤ len → Room left 64 n lines len

@@ -77,5 +77,6 @@ columns-requires c =
 
 pub loop-j-preserved : goal.loop-j-preserved
 loop-j-preserved c =
-    column-more 0 _ c.loop-j.j c.loop-j.j c.pick-first.result c.pick-rows.result (sym (zero-add c.loop-j.j)) c.loop-j-test.true nan c.args.lower (product c.args.alpha (strided c.args.a.cells.now c.args.a.row c.args.a.column) (strided c.args.b.cells.now c.args.b.row c.args.b.column) false c.args.k) _ _ _ _ _ _ (inside (goal.at.loop-j-preserved c).After-pick-rows) (omega arith) (omega arith) refl (omega (arith, turn (goal.at.loop-j-preserved c).After-pick-rows)) c.loop-j.invariant
-    (one-column-of c.args.alpha c.args.a.cells.now c.args.a.row c.args.a.column c.args.b.cells.now c.args.b.row c.args.b.column false c.args.k c.args.ld c.pick-rows.result c.pick-first.result c.loop-j.j _ _ (omega arith) (omega (arith, turn (goal.at.loop-j-preserved c).After-pick-rows)) c.columns.ensures) (λ i x. refl)
+    let fits = turn (goal.at.loop-j-preserved c).After-pick-rows in
+    column-more 0 _ c.loop-j.j c.loop-j.j c.pick-first.result c.pick-rows.result (sym (zero-add c.loop-j.j)) c.loop-j-test.true nan c.args.lower (product c.args.alpha (strided c.args.a.cells.now c.args.a.row c.args.a.column) (strided c.args.b.cells.now c.args.b.row c.args.b.column) false c.args.k) _ _ _ _ _ _ (inside (goal.at.loop-j-preserved c).After-pick-rows) (omega arith) (omega arith) refl (omega arith) c.loop-j.invariant
+    (one-column-of c.args.alpha c.args.a.cells.now c.args.a.row c.args.a.column c.args.b.cells.now c.args.b.row c.args.b.column false c.args.k c.args.ld c.pick-rows.result c.pick-first.result c.loop-j.j _ _ (omega arith) (omega arith) c.columns.ensures) (λ i x. refl)

@@ -37,15 +37,16 @@ pub loop-x-init : goal.loop-x-init
 loop-x-init c = rw c.into_iter-x-iterator.ensures.into_iter_gives (omega arith, tt, c.of-x-items.ensures.1, c.of-x-items.ensures.2, rw c.of-x-items.ensures.0 (no_rows _ _ _ _ _))
 
 pub pack-requires : goal.pack-requires
-pack-requires c = (
-  omega (arith, rows (goal.at.pack-requires c).In-Some),
-  omega (arith, rows (goal.at.pack-requires c).In-Some),
-  omega arith,
-  omega arith,
-  upward _ _ (omega (arith, rows (goal.at.pack-requires c).In-Some)),
-  c.requires.terms_nonzero.3,
-  λ y x hy hx. rw (up_from c.args.i0 c.in-Some.x y) (c.requires.by_index (c.in-Some.x + y) x (omega (arith, rows (goal.at.pack-requires c).In-Some)) hx),
-)
+pack-requires c =
+    let fits = rows (goal.at.pack-requires c).In-Some in (
+      omega arith,
+      omega arith,
+      omega arith,
+      omega arith,
+      upward _ _ (omega arith),
+      c.requires.terms_nonzero.3,
+      λ y x hy hx. rw (up_from c.args.i0 c.in-Some.x y) (c.requires.by_index (c.in-Some.x + y) x (omega arith) hx),
+    )
 
 pub loop-x-preserved : goal.loop-x-preserved
 loop-x-preserved c =

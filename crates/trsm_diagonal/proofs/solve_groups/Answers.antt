@@ -64,10 +64,12 @@ loop-j-init c =
     (omega arith, tt, c.of-j-items.ensures.1, c.of-j-items.ensures.2, rw c.of-j-items.ensures.0 none, rw c.of-j-items.ensures.0 kept, rw c.of-j-items.ensures.0 zero)
 
 pub block-requires : goal.block-requires
-block-requires c = record {
-  ld_nonzero = (omega (arith, group (goal.at.block-requires c).After-least-y), omega (arith, group (goal.at.block-requires c).After-least-y), simp tail-length (omega (arith, group (goal.at.block-requires c).After-least-y)));
-  rows_bound = (omega (arith, group (goal.at.block-requires c).After-least-y), omega (arith, group (goal.at.block-requires c).After-least-y), omega (arith, group (goal.at.block-requires c).After-least-y), simp tail-length (omega (arith, group (goal.at.block-requires c).After-least-y)));
-}
+block-requires c =
+    let fits = group (goal.at.block-requires c).After-least-y in
+    record {
+      ld_nonzero = (omega arith, omega arith, simp tail-length (omega arith));
+      rows_bound = (omega arith, omega arith, omega arith, simp tail-length (omega arith));
+    }
 
 pub solve_unknowns-z-requires : goal.solve_unknowns-z-requires
 solve_unknowns-z-requires c =

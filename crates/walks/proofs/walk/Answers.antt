@@ -1,10 +1,8 @@
 -- `walks::walk` meets its contract: the columns below j are done, and their passes are counted.
 use Prim.Native.Nat.{◌≤◌, ◌<◌, ◌+◌, ◌*◌}
-use mathlib.Core.Path.{◌≡◌, refl, ap, ◌∙◌}
+use mathlib.Core.Path.{◌≡◌}
 use native.Mathlib.Omega.{arith}
-use lib.ListN.{length}
 use Rattle.arrays.proofs.PartLaws.{column-room}
-use Rattle.arrays.proofs.UpdateLaws.{length-update}
 use Rattle.blocks.proofs.TermLaws.{at-once-some}
 use Rattle.arrays.proofs.TrapezoidLaws.{Inside, rows-room, none_yet}
 use Rattle.walks.proofs.WalkLaws.{corner-next, counted_none, counted-more, counted-all}
@@ -24,9 +22,11 @@ loop-j-init c = (omega arith, counted_none c.args.lower c.args.order, none_yet _
 
 pub loop-j-preserved : goal.loop-j-preserved
 loop-j-preserved c =
-    let e = corner-next c.args.lower _ _ _ _ _ _ _ _ _ _ _ (omega arith) (omega arith) c.loop-j-test.true (inside (goal.at.loop-j-preserved c).After-pick-rows) (omega (arith, room (goal.at.loop-j-preserved c).After-pick-rows)) c.loop-j.invariant.2 c.axpys-count.ensures.1 in
+    let fits = inside (goal.at.loop-j-preserved c).After-pick-rows in
+    let fits2 = room (goal.at.loop-j-preserved c).After-pick-rows in
+    let e = corner-next c.args.lower _ _ _ _ _ _ _ _ _ _ _ (omega arith) (omega arith) c.loop-j-test.true (fits) (omega arith) c.loop-j.invariant.2 c.axpys-count.ensures.1 in
     let n = c.axpys-count.ensures.0 in
-    (omega (arith, room (goal.at.loop-j-preserved c).After-pick-rows, n), rw n (counted-more c.args.lower _ _ _ _ _ (inside (goal.at.loop-j-preserved c).After-pick-rows) c.loop-j-test.true c.loop-j.invariant.1), e)
+    (omega (arith, n), rw n (counted-more c.args.lower _ _ _ _ _ (fits) c.loop-j-test.true c.loop-j.invariant.1), e)
 
 pub returns : goal.returns
 returns c = let e : c.loop-j.j ≡ c.args.order = omega arith in (counted-all c.args.lower _ _ (rw e at c.loop-j.invariant.1), rw e at c.loop-j.invariant.2)

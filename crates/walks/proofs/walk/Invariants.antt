@@ -1,7 +1,6 @@
 -- `walks::walk` meets its contract: the columns below j are done, and their passes are counted.
-use Prim.Native.Nat.{◌≤◌, ◌-◌, ◌*◌}
+use Prim.Native.Nat.{◌≤◌, ◌*◌}
 use mathlib.Core.Path.{◌≡◌}
-use lib.ListN.{length}
 use Rattle.arrays.specs.Update.{update, entries, only, corner}
 use Rattle.blocks.specs.Terms.{packed}
 use Rattle.walks.proofs.WalkLaws.{Counted}

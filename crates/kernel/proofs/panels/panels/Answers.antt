@@ -39,34 +39,36 @@ pub loop-l-init : goal.loop-l-init
 loop-l-init c = rw c.into_iter-l-iterator.ensures.into_iter_gives (omega arith, tt, c.of-l-items.ensures.1, c.of-l-items.ensures.2, rw c.of-l-items.ensures.0 (partly_none _ _ _ _ _ _ _ _ _))
 
 pub pack-requires : goal.pack-requires
-pack-requires c = (
-  omega (arith, terms (goal.at.pack-requires c).In-Some),
-  omega (arith, terms (goal.at.pack-requires c).In-Some),
-  omega arith,
-  omega arith,
-  panel-indices _ _ _ _ (omega (arith, terms (goal.at.pack-requires c).In-Some)) (omega (arith, terms (goal.at.pack-requires c).In-Some)) (omega (arith, terms (goal.at.pack-requires c).In-Some)) c.turn_of.ensures.0,
-  upward _ _ (omega arith),
-  λ y x hy hx.
-      rw (turn_along c.args.down c.args.p.terms c.in-Some.l y c.turn_of.ensures.0, along-up c.args.j0 x refl)
-      (c.requires.by_index.1 _ x (turn_below c.args.down c.args.p.terms (c.in-Some.l + y) (omega (arith, terms (goal.at.pack-requires c).In-Some))) hx),
-)
+pack-requires c =
+    let fits = terms (goal.at.pack-requires c).In-Some in (
+      omega arith,
+      omega arith,
+      omega arith,
+      omega arith,
+      panel-indices _ _ _ _ (omega arith) (omega arith) (omega arith) c.turn_of.ensures.0,
+      upward _ _ (omega arith),
+      λ y x hy hx.
+          rw (turn_along c.args.down c.args.p.terms c.in-Some.l y c.turn_of.ensures.0, along-up c.args.j0 x refl)
+          (c.requires.by_index.1 _ x (turn_below c.args.down c.args.p.terms (c.in-Some.l + y) (omega arith)) hx),
+    )
 
 pub sweep-requires : goal.sweep-requires
 sweep-requires c =
+    let fits = terms (goal.at.sweep-requires c).In-Some in
     let e = ap length c.scale.ensures ∙ length-update _ _ ∙ ap length c.pack.ensures ∙ length-update _ _ in record {
-      ld_nonzero = omega (arith, terms (goal.at.sweep-requires c).In-Some, e);
+      ld_nonzero = omega (arith, e);
       terms_nonzero = (
-        omega (arith, terms (goal.at.sweep-requires c).In-Some),
-        omega (arith, terms (goal.at.sweep-requires c).In-Some),
-        omega (arith, terms (goal.at.sweep-requires c).In-Some),
         omega arith,
         omega arith,
         omega arith,
-        panel-indices _ _ _ _ (omega (arith, terms (goal.at.sweep-requires c).In-Some)) (omega (arith, terms (goal.at.sweep-requires c).In-Some)) (omega (arith, terms (goal.at.sweep-requires c).In-Some)) c.turn_of.ensures.0,
+        omega arith,
+        omega arith,
+        omega arith,
+        panel-indices _ _ _ _ (omega arith) (omega arith) (omega arith) c.turn_of.ensures.0,
       );
       by_index = λ i q hi hq.
           rw (turn_along c.args.down c.args.p.terms c.in-Some.l q c.turn_of.ensures.0)
-          (c.requires.by_index.0 i _ hi (turn_below c.args.down c.args.p.terms (c.in-Some.l + q) (omega (arith, terms (goal.at.sweep-requires c).In-Some))));
+          (c.requires.by_index.0 i _ hi (turn_below c.args.down c.args.p.terms (c.in-Some.l + q) (omega arith)));
     }
 
 pub loop-l-preserved : goal.loop-l-preserved

@@ -37,15 +37,16 @@ pub loop-i-init : goal.loop-i-init
 loop-i-init c = rw c.into_iter-i-iterator.ensures.into_iter_gives (omega arith, tt, c.of-i-items.ensures.1, c.of-i-items.ensures.2, rw c.of-i-items.ensures.0 (region-no-rows _ _ _ _))
 
 pub pack-requires : goal.pack-requires
-pack-requires c = (
-  omega (arith, rows (goal.at.pack-requires c).In-Some),
-  omega (arith, rows (goal.at.pack-requires c).In-Some),
-  omega arith,
-  omega arith,
-  upward _ _ (omega (arith, rows (goal.at.pack-requires c).In-Some)),
-  c.requires.terms_nonzero.6,
-  λ y x hy hx. rw (up_from c.args.i0 c.in-Some.i y) (c.requires.by_index (c.in-Some.i + y) x (omega (arith, rows (goal.at.pack-requires c).In-Some)) hx),
-)
+pack-requires c =
+    let fits = rows (goal.at.pack-requires c).In-Some in (
+      omega arith,
+      omega arith,
+      omega arith,
+      omega arith,
+      upward _ _ (omega arith),
+      c.requires.terms_nonzero.6,
+      λ y x hy hx. rw (up_from c.args.i0 c.in-Some.i y) (c.requires.by_index (c.in-Some.i + y) x (omega arith) hx),
+    )
 
 pub loop-i-preserved : goal.loop-i-preserved
 loop-i-preserved c =
