@@ -28,14 +28,13 @@ add() {
     objcopy --redefine-syms=names "${@:3}" "$2" $1.o
     builds+=" B(\"$1\", ${level[$1]}, $suffix)" members+=($1.o)
 }
-# Compiles a module: compile CPU MODULE OBJECT. Wide builds get words for speed. Gathered loads and stores, and vectors of more than two elements that are put
-# together one by one, are slow in tiny products. Loops are short beside a vector: how far they are unrolled was tried out, and their rest goes four by four.
-# They start at multiples of 32 bytes, so that it matters less where their code stands.
+# Compiles a module: compile CPU MODULE OBJECT WORDS.. Wide builds get words for speed. Gathered loads and stores, and vectors of more than two elements that are
+# put together one by one, are slow in tiny products. Loops are short beside a vector: how far they are unrolled was tried out, and their rest goes four by four.
 declare -A unrolled=([x86-64-v3]=1 [x86-64-v4]=2)
 compile() {
-    local word words=(-ffp-contract=off)
+    local word words=(-ffp-contract=off "${@:4}")
     [ $1 = x86-64 ] || words+=(-mno-gather -mno-scatter -mllvm -slp-max-reg-size=128)
-    [ $1 = x86-64 ] || words+=(-mllvm -force-vector-interleave=${unrolled[$1]} -mllvm -epilogue-vectorization-force-VF=4 -falign-loops=32)
+    [ $1 = x86-64 ] || words+=(-mllvm -force-vector-interleave=${unrolled[$1]} -mllvm -epilogue-vectorization-force-VF=4)
     while IFS= read -r word; do
         case $word in
         -march=x86-64) word=-march=$1 ;;
@@ -70,8 +69,9 @@ if [ -f "$in/words" ] && once -march=x86-64 && once '.*\.bc' && once '.*\.o'; th
     for word in 'align 64' noinline alwaysinline; do
         grep -q " $word" prepared.ll || echo "library: link.sh finds nothing in the module for '$word'; the library is right, and may be slow"
     done
+    # Loops start at multiples of 32 bytes and no branch crosses one, which some processors are slow at, so that it matters less where code stands.
     for cpu in x86-64 x86-64-v3 x86-64-v4; do
-        compile $cpu "$PWD/prepared.ll" compiled-$cpu.o
+        compile $cpu "$PWD/prepared.ll" compiled-$cpu.o -falign-loops=32 -mbranches-within-32B-boundaries
         objdump -d --no-show-raw-insn compiled-$cpu.o > $cpu.txt
         sed -n '/<blocks::block::block>:$/,/^$/p' $cpu.txt > loops.txt
         grep -q "mulpd .*%${registers[$cpu]}" loops.txt || fail "the build for $cpu does not multiply in ${registers[$cpu]} registers"

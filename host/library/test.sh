@@ -46,7 +46,7 @@ if [ -f "$work/module.bc" ]; then
     module=$work/builds/module.ll prepared=$work/builds/prepared.ll
     grep -q 'x i8\], align 64$' "$prepared" || fail "no buffer of the library starts at a cache line"
     grep -q '@"arguments::check".* alwaysinline #' "$prepared" || fail "the argument check is not inlined"
-    grep -q '@"kernel::panels::blocked".* noinline #' "$prepared" || fail "a function with buffers may be inlined"
+    grep -q '@"kernel::panels::buffered::<=4096>".* noinline #' "$prepared" || fail "a function with buffers may be inlined"
     sed -E 's/ (no|always)inline( #[0-9]+ \{)$/\2/; s/(x i8\]), align 64$/\1, align 8/' "$prepared" | cmp -s - "$module" || fail "more of the module is changed than its marks"
     passed=$((passed + 4))
     copy; echo "$fused" > "$spoiled/module.bc"; refused 'has fused operations'
