@@ -1,11 +1,17 @@
--- `is_right` by the side.
+-- The right side is the second of the two.
+use mathlib.Core.Path.{◌≡◌, refl, ◌∙◌}
+use mathlib.Core.Bool.{false, true}
+use denote.Enum.Bare.{sameb}
+use Rattle.definitions.specs.contracts.Side.{the_type}
+use Rattle.definitions.specs.declared.Side.{Side}
+use Rattle.definitions.specs.declared.Side.TheVariants.{Left, Right}
 use Rattle.definitions.specs.Call.{by_side}
 use Rattle.arguments.proofs.is_right.Goals as goal
 
-pub returns-in-Left : goal.returns-in-Left
+test : (s : Side) → sameb the_type s Right ≡ by_side s false true
 unfolding by_side
-returns-in-Left c = simp c.in-Left.is
+test Left = refl
+test Right = refl
 
-pub returns-in-Right : goal.returns-in-Right
-unfolding by_side
-returns-in-Right c = simp c.in-Right.is
+pub returns : goal.returns
+returns c = c.eq.ensures ∙ test c.args.s
