@@ -1,7 +1,7 @@
 -- The tests in turn give the number of a refusal: the rows of the table hold the places of the definitions, and the first test that fails decides.
 -- Assumes nothing.
 use mathlib.Core.Path.{◌≡◌, refl, sym, ap, ◌∙◌}
-use mathlib.Core.Bool.{Bool, true, false, not, ◌&&◌, ◌||◌}
+use mathlib.Core.Bool.{Bool, true, false, ◌||◌}
 use mathlib.Core.List.{List, [], ◌∷◌, ◌++◌}
 use Prim.Native.Nat.{ℕ, zero, suc}
 use lib.Dec.{eqb, eqb-suc-zero}
@@ -9,13 +9,10 @@ use lib.IntN.{ℤ}
 use lib.ListN.{get_or}
 use Rattle.std.specs.Prelude.{if◌then◌else◌}
 use Rattle.arrays.proofs.Tests.{by-test}
-use Rattle.definitions.specs.Call.{in_place, empty, shape_a, shape_b, shape_c}
-use Rattle.definitions.specs.Check.{Argument, array-A, array-B, array-C, Place, ◌at◌, places, arrays, short, untested, bad_with, bad, first_bad, bad_width, call_of, refusal}
+use Rattle.definitions.specs.Check.{Argument, Place, ◌at◌, places, arrays, bad, first_bad, bad_width, refusal}
 use Rattle.definitions.specs.declared.Routine.{Routine}
 use Rattle.definitions.specs.declared.Routine.TheVariants.{Gemm, Symm, Syrk, Syr2k, Trmm, Trsm}
 use Rattle.definitions.specs.declared.Args.{Args}
-use Rattle.definitions.specs.declared.Call.{Call}
-use Rattle.definitions.specs.declared.Shape.{Shape}
 use Rattle.definitions.proofs.CheckLaws.{column, place_in}
 use Rattle.arguments.specs.Refusal.{first_of}
 use Rattle.arguments.specs.Tests.{codes, sizes, leading, lengths, words, columns, row_of, tests}
@@ -85,8 +82,8 @@ module _ (w r : ℤ) (g : Args) where
   refusal_is h =
       let row = row_of g.routine in
       rw h (
-        sym (both g row words lengths
-          ∙ ap (λ (n : ℕ). first_of n (tests g row lengths)) (first-bad g row words ∙ ap (first_bad g) (same-table g.routine).0)
-          ∙ ap (first_of (first_bad g (places g.routine))) (arrays-tested g row refl))
-        ∙ first-bad g row columns
-        ∙ ap (first_bad g) (kept-both row words lengths ∙ λ i. (same-table g.routine).0 i ++ (same-table g.routine).1 i))
+      sym (both g row words lengths
+      ∙ ap (λ (n : ℕ). first_of n (tests g row lengths)) (first-bad g row words ∙ ap (first_bad g) (same-table g.routine).0)
+      ∙ ap (first_of (first_bad g (places g.routine))) (arrays-tested g row refl))
+      ∙ first-bad g row columns
+      ∙ ap (first_bad g) (kept-both row words lengths ∙ λ i. (same-table g.routine).0 i ++ (same-table g.routine).1 i))

@@ -1,12 +1,9 @@
 -- The argument check as its code goes: the rows of the table of places, and the tests in turn.
-use Rattle.std.specs.Prelude.{ℕ, ◌≡◌, Bool, not, ◌||◌, List, [], ◌∷◌, ◌++◌, map, eqb, ℤ, get_or, if◌then◌else◌}
-use Rattle.definitions.specs.Call.{shape_a, shape_b, shape_c}
+use Rattle.std.specs.Prelude.{ℕ, Bool, not, ◌||◌, List, [], ◌∷◌, ◌++◌, map, ℤ, get_or, if◌then◌else◌}
 use Rattle.definitions.specs.Check.{Argument, side, uplo, transa, transb, diag, size-m, size-n, size-k, ld-A, ld-B, ld-C, array-A, array-B, array-C, places, arrays, 'N', 'T', 'C', 'L', 'R', 'U', is, bad}
 use Rattle.arguments.specs.Refusal.{first_of}
 use Rattle.definitions.specs.declared.Routine.{Routine}
 use Rattle.definitions.specs.declared.Args.{Args}
-use Rattle.definitions.specs.declared.Call.{Call}
-use Rattle.definitions.specs.declared.Shape.{Shape}
 use Rattle.definitions.proofs.CheckLaws.{column, place_in}
 
 unfoldable pub codes : List Argument

@@ -13,33 +13,22 @@ ghost use Rattle.arguments.specs.Refusal.{Gives};
 use definitions::{Args, Call, Checked, Diagonal, Routine, Shape, Side, Transpose, Triangle};
 
 // Why arguments are refused: the number that is given.
-#[derive(Clone, Copy, PartialEq, Eq)]
+#[derive(Clone, Copy)]
 pub struct Refusal {
     pub number: u8,
 }
 
-// The argument places of the six routines, 0 where the routine lacks the argument.
+// The argument places of the routine, 0 where it lacks the argument.
 // Columns: side, uplo, trans or transa, transb, diag; m, n, k; ld of A, B, C; arrays A, B, C.
-const PLACES: [[u8; 14]; 6] = [
-    [0, 0, 1, 2, 0, 3, 4, 5, 8, 10, 13, 7, 9, 12],
-    [1, 2, 0, 0, 0, 3, 4, 0, 7, 9, 12, 6, 8, 11],
-    [0, 1, 2, 0, 0, 0, 3, 4, 7, 0, 10, 6, 0, 9],
-    [0, 1, 2, 0, 0, 0, 3, 4, 7, 9, 12, 6, 8, 11],
-    [1, 2, 3, 0, 4, 5, 6, 0, 9, 11, 0, 8, 10, 0],
-    [1, 2, 3, 0, 4, 5, 6, 0, 9, 11, 0, 8, 10, 0],
-];
-
-// The routine's row of the table.
 fn places(routine: Routine) -> [u8; 14]
     ensures { result ≡ Tests.row_of routine }
 {
     match routine {
-        Routine::Gemm => PLACES[0],
-        Routine::Symm => PLACES[1],
-        Routine::Syrk => PLACES[2],
-        Routine::Syr2k => PLACES[3],
-        Routine::Trmm => PLACES[4],
-        Routine::Trsm => PLACES[5],
+        Routine::Gemm => [0, 0, 1, 2, 0, 3, 4, 5, 8, 10, 13, 7, 9, 12],
+        Routine::Symm => [1, 2, 0, 0, 0, 3, 4, 0, 7, 9, 12, 6, 8, 11],
+        Routine::Syrk => [0, 1, 2, 0, 0, 0, 3, 4, 7, 0, 10, 6, 0, 9],
+        Routine::Syr2k => [0, 1, 2, 0, 0, 0, 3, 4, 7, 9, 12, 6, 8, 11],
+        Routine::Trmm | Routine::Trsm => [1, 2, 3, 0, 4, 5, 6, 0, 9, 11, 0, 8, 10, 0],
     }
 }
 
@@ -66,6 +55,7 @@ fn is(letter: u8, code: i32) -> bool
     (n == letter as u32) | (n == letter as u32 + 32)
 }
 
+// A code that is no letter of its kind counts as the last case, as the definitions have it: so these four are no TryFrom.
 fn side_of(code: i32) -> Side
     ensures { result ≡ Check.side_of code }
 {
@@ -294,10 +284,7 @@ pub fn shape_c(c: Call) -> Shape
 fn needed(ld: u32, p: u32, q: u32) -> usize
     ensures { result ≡ Storage.needed ld p q }
 {
-    if p == 0 {
-        return 0;
-    }
-    if q == 0 {
+    if p == 0 || q == 0 {
         return 0;
     }
     (ld as usize) * (q as usize - 1) + p as usize
@@ -333,7 +320,7 @@ fn untested_b(c: Call) -> bool
 fn test(bad: bool, place: u8) -> Result<(), Refusal>
     ensures { Gives (if bad then place else 0) result }
 {
-    if bad & (place != 0) {
+    if bad && (place != 0) {
         return Err(Refusal { number: place });
     }
     Ok(())
@@ -399,7 +386,7 @@ fn test_all(w: i32, r: i32, g: Args, k: Call) -> Result<(), Refusal>
     requires { k ≡ Check.call_of g }
     ensures { Gives (Check.refusal w r g) result }
 {
-    if bad_width(w) | bad_width(r) {
+    if bad_width(w) || bad_width(r) {
         return Err(Refusal { number: 30 });
     }
     test_words(g, k)?;
@@ -422,17 +409,11 @@ pub fn check(w: i32, r: i32, g: Args) -> Checked
 
 // ---- strips
 
-fn is_right(s: Side) -> bool
-    ensures { result ≡ Calls.by_side s false true }
-{
-    s == Side::Right
-}
-
 // Strips cut the rows of the output, not its columns.
 fn cuts_rows(routine: Routine, s: Side) -> bool
     ensures { result ≡ Calls.cuts_rows routine s }
 {
-    in_place(routine) & is_right(s)
+    in_place(routine) & (s == Side::Right)
 }
 
 // The columns of the output, or its rows where strips cut rows.

@@ -4,7 +4,6 @@ use Rattle.definitions.proofs.CheckLaws.{column}
 use Rattle.arguments.specs.Refusal.{first_of}
 use Rattle.arguments.specs.Tests.{lengths, tests}
 use native.Mathlib.Omega.{arith}
-use Rattle.arguments.proofs.Signed.{word_same}
 use Rattle.arguments.proofs.Turns.{handed}
 use Rattle.arguments.proofs.lengths.Goals as goal
 
