@@ -1,7 +1,7 @@
 -- Without right sides nothing is copied.
 -- Assumes nothing.
 use Prim.Native.Nat.{ℕ}
-use mathlib.Core.Path.{◌≡◌, refl}
+use mathlib.Core.Path.{◌≡◌}
 use Rattle.definitions.specs.Many.{copies, copied}
 use Rattle.definitions.specs.declared.Call.{Call}
 

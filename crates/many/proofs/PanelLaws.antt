@@ -7,11 +7,11 @@ use mathlib.Core.Bool.{Bool, true, false, and-true, and-false}
 use mathlib.Core.List.{List, ◌++◌}
 use native.Mathlib.Nat.{le_refl, mul_comm}
 use native.Mathlib.Omega.{arith}
-use lib.Dec.{ltb, eqb}
+use lib.Dec.{eqb}
 use lib.ListN.{length, get_or, take, drop, length-append, length-drop, take-append-drop, drop_of_length-le}
 use lib.Seq.{length-take-le}
 use lib.Ieee.{Float, nan}
-use borrow.Author.Tests.{eq-eqb, ltb-false}
+use borrow.Author.Tests.{eq-eqb}
 use Rattle.arrays.specs.Update.{update, below, entries, region}
 use Rattle.arrays.specs.Fold.{fold}
 use Rattle.arrays.proofs.Tests.{by-test}

@@ -31,15 +31,8 @@ struct Strides {
 fn from_last(len: usize, stride: i32, count: i32) -> usize
     ensures { result ≡ Many.from_last len stride count }
 {
-    let items = arguments::size(count);
-    if items == 0 {
-        return len;
-    }
-    let before = (items as usize - 1) * (arguments::size(stride) as usize);
-    if len < before {
-        return 0;
-    }
-    len - before
+    let before = (arguments::size(count) as usize).saturating_sub(1);
+    len.saturating_sub(before * (arguments::size(stride) as usize))
 }
 
 // A count that is not 0 to 1,000.
@@ -74,10 +67,7 @@ fn panel_size(c: Call) -> usize
 fn copied(c: Call, count: u32) -> usize
     ensures { result ≡ Many.copied c count }
 {
-    if count == 0 {
-        return 0;
-    }
-    if c.lda == c.m {
+    if count == 0 || c.lda == c.m {
         return 0;
     }
     panel_size(c)
@@ -172,15 +162,7 @@ fn item(
 }
 
 // All items in turn.
-fn items(
-    call: Call,
-    a: &[f64],
-    b: &[f64],
-    c: &mut [f64],
-    s: Strides,
-    w: usize,
-    r: usize,
-)
+fn items(call: Call, a: &[f64], b: &[f64], c: &mut [f64], s: Strides, w: usize, r: usize)
     requires each_fits { EachFits call (length a.now) (length b.now) (length c.old) s.b s.c s.count }
     requires w_nonzero { (0 < w) × (w ≤ 64) × (0 < r) × (r ≤ 64) }
     ensures { c.new ≡ fold (Many.item (Element.result call a.now) s.b s.c b.now) s.count c.old }
@@ -208,10 +190,7 @@ fn all<'a>(
     requires w_nonzero { (0 < w) × (w ≤ 64) × (0 < r) × (r ≤ 64) }
     ensures { c.new ≡ fold (Many.item (Element.result call a.now) s.b s.c b.now) s.count c.old }
 {
-    if s.count == 0 {
-        return;
-    }
-    if arguments::is_idle(call) {
+    if s.count == 0 || arguments::is_idle(call) {
         return;
     }
     let p = panel(own, a, pack, panel_size(call));
@@ -300,12 +279,11 @@ pub fn gemm_many(
         strideb,
         stridec,
     };
-    // 78 is N.
     let g = Args {
         routine: Routine::Gemm,
         side: 0,
         uplo: 0,
-        transa: 78,
+        transa: b'N' as i32,
         transb,
         diag: 0,
         m,

@@ -1,15 +1,11 @@
 -- `items` makes one item after the other.
-use Prim.Native.Nat.{◌*◌}
 use mathlib.Core.Path.{refl, ap, ◌∙◌}
 use mathlib.Core.List.{List}
 use native.Mathlib.Numerals.{add-one}
-use native.Mathlib.Omega.{arith}
-use lib.ListN.{drop}
 use lib.Ieee.{Float}
 use Rattle.arrays.specs.Fold.{fold}
 use Rattle.definitions.specs.Element.{result}
 use Rattle.definitions.specs.Many.{item}
-use Rattle.many.proofs.PanelLaws.{item-length}
 use Rattle.many.proofs.items.Goals as goal
 
 pub loop-i-init : goal.loop-i-init

@@ -1,7 +1,5 @@
 -- `items` makes one item after the other.
-use Prim.Native.Nat.{◌-◌, ◌≤◌}
 use mathlib.Core.Path.{◌≡◌}
-use lib.ListN.{length}
 use Rattle.arrays.specs.Fold.{fold}
 use Rattle.definitions.specs.Element.{result}
 use Rattle.definitions.specs.Many.{item}

@@ -1,10 +1,8 @@
 -- `pack_columns` copies one column after the other.
 use Prim.Native.Nat.{◌-◌, ◌*◌, ◌+◌, ◌≤◌, ◌<◌}
-use mathlib.Core.Path.{refl, ap, ◌∙◌}
 use native.Mathlib.Omega.{arith}
 use lib.ListN.{length}
 use lib.Ieee.{nan}
-use Rattle.arrays.proofs.UpdateLaws.{length-update}
 use Rattle.arrays.proofs.PartLaws.{column-room, tail-length}
 use Rattle.arrays.proofs.RegionLaws.{region-no-columns, region-column}
 use Rattle.definitions.specs.Storage.{stored}

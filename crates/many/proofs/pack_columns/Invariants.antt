@@ -1,7 +1,5 @@
 -- `pack_columns` copies one column after the other.
-use Prim.Native.Nat.{◌-◌, ◌≤◌}
 use mathlib.Core.Path.{◌≡◌}
-use lib.ListN.{length}
 use lib.Ieee.{nan}
 use Rattle.arrays.specs.Update.{update, region}
 use Rattle.definitions.specs.Storage.{stored}

@@ -15,11 +15,14 @@ use Rattle.arguments.proofs.Signed.{same, word_same}
 use Rattle.many.proofs.PanelLaws.{nothing-packed}
 use Rattle.many.proofs.RunLaws.{fills, prepared, widths}
 use Rattle.many.proofs.run.Goals as goal
-use Rattle.many.proofs.run.Goals.{After-copied-n}
+use Rattle.many.proofs.run.Goals.{After-copied-n, In-Err}
 
--- the call is not refused, and what is copied
+-- the call is not refused, or is with this number
 accepted : (c : After-copied-n) → refusal c.args.w c.args.r c.args.g c.args.t (length c.args.pack.now) ≡ 0
 accepted c = grind (arith, word_same, c.in_default.ensures)
+
+refused-with : (c : In-Err) → (refusal c.args.w c.args.r c.args.g c.args.t (length c.args.pack.now) ≡ c.in-Err.refusal.number) × (0 < c.in-Err.refusal.number)
+refused-with c = grind (arith, word_same, c.in-Err.ensures)
 
 count : (c : After-copied-n) → c.size.result ≡ nat c.args.t.count
 count c = same nat c.args.t.count (omega arith) c.size.ensures
@@ -32,7 +35,7 @@ stridec c = same nat c.args.t.stridec (omega arith) c.size-3.ensures
 
 pub returns-in-Err : goal.returns-in-Err
 returns-in-Err c =
-    let e : (refusal c.args.w c.args.r c.args.g c.args.t (length c.args.pack.now) ≡ c.in-Err.refusal.number) × (0 < c.in-Err.refusal.number) = grind (arith, word_same, c.in-Err.ensures) in
+    let e = refused-with (goal.at.returns-in-Err c).In-Err in
     let refused = ne_eqb (refusal c.args.w c.args.r c.args.g c.args.t (length c.args.pack.now)) 0 (λ z. omega arith) in
     (to_z_pos w32 c.in-Err.refusal.number (omega arith) ∙ ap pos (sym e.0), sym (if-false _ _ 0 refused), sym (if-false _ _ _ refused), nothing-packed _ _ _ _ (if-false _ _ 0 refused))
 
