@@ -94,6 +94,29 @@ pub struct Shape {
     pub cols: u32,
 }
 
+impl Args {
+    // The arguments that a routine lacks: each counts as 0. The routine itself is always given.
+    pub const NONE: Args = Args {
+        routine: Routine::Gemm,
+        side: 0,
+        uplo: 0,
+        transa: 0,
+        transb: 0,
+        diag: 0,
+        m: 0,
+        n: 0,
+        k: 0,
+        alpha: Scalar::Zero,
+        beta: Scalar::Zero,
+        lda: 0,
+        ldb: 0,
+        ldc: 0,
+        lena: 0,
+        lenb: 0,
+        lenc: 0,
+    };
+}
+
 // The answer of the argument check.
 #[derive(Clone, Copy)]
 pub enum Checked {

@@ -281,11 +281,8 @@ pub fn gemm_many(
     };
     let g = Args {
         routine: Routine::Gemm,
-        side: 0,
-        uplo: 0,
         transa: b'N' as i32,
         transb,
-        diag: 0,
         m,
         n,
         k,
@@ -297,6 +294,7 @@ pub fn gemm_many(
         lena: a.len(),
         lenb: from_last(b.len(), strideb, items),
         lenc: from_last(c.len(), stridec, items),
+        ..Args::NONE
     };
     run(w, r, g, t, a, b, c, pack)
 }
