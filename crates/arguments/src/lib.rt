@@ -1,4 +1,4 @@
-// The argument check of the six routines, and the number of strips of a call.
+// The argument check of the six routines, and the number of strips of a call. Tests whose value goes on are joined by | and &, which have no branches.
 #![tactic(auto)]
 
 ghost use Rattle.std.specs.Prelude.{◌≡◌, true, false, ◌<◌, eqb, if◌then◌else◌};
@@ -55,7 +55,7 @@ fn is(letter: u8, code: i32) -> bool
     (n == letter as u32) | (n == letter as u32 + 32)
 }
 
-// A code that is no letter of its kind counts as the last case, as the definitions have it: so these four are no TryFrom.
+// A code that is no letter of its kind counts as the last case, as the definitions have it, so these four are no TryFrom.
 fn side_of(code: i32) -> Side
     ensures { result ≡ Check.side_of code }
 {
@@ -320,7 +320,7 @@ fn untested_b(c: Call) -> bool
 fn test(bad: bool, place: u8) -> Result<(), Refusal>
     ensures { Gives (if bad then place else 0) result }
 {
-    if bad && (place != 0) {
+    if bad && place != 0 {
         return Err(Refusal { number: place });
     }
     Ok(())

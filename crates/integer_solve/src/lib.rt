@@ -132,8 +132,8 @@ fn widen(s: &mut [i64], b: &[i16])
     requires { length b.now ≤ length s.old }
     ensures { (s.new ≡ update (below (length b.now) (λ i _. get_or b.now i (pos 0))) s.old) × Words (length b.now) b.now }
 {
-    for i in 0..b.len() {
-        s[i] = b[i] as i64;
+    for (i, right) in b.iter().enumerate() {
+        s[i] = *right as i64;
     }
 }
 
@@ -167,8 +167,8 @@ fn narrow(x: &mut [i16], s: &[i64])
     requires { (length x.old ≤ length s.now) × Words (length x.old) s.now }
     ensures { x.new ≡ update (λ i _. get_or s.now i (pos 0)) x.old }
 {
-    for i in 0..x.len() {
-        x[i] = s[i] as i16;
+    for (i, unknown) in x.iter_mut().enumerate() {
+        *unknown = s[i] as i16;
     }
 }
 

@@ -10,9 +10,9 @@ use mir.ValLaws.{to_z-of_z}
 use Rattle.arrays.proofs.UpdateLaws.{below_none, below_more, below_in, update_same}
 use Rattle.integer_solve.proofs.Words.{word_fits, fits-64, same_word}
 use Rattle.integer_solve.proofs.narrow.Goals as goal
-use Rattle.integer_solve.proofs.narrow.Goals.{After-x-1}
+use Rattle.integer_solve.proofs.narrow.Goals.{In-loop-i}
 
-word : (c : After-x-1) → mag (get_or c.args.s.now c.loop-i.i (pos 0)) < 32768
+word : (c : In-loop-i) → mag (get_or c.args.s.now c.loop-i.i (pos 0)) < 32768
 word c = word_fits (c.requires.1 c.loop-i.i (omega arith))
 
 pub loop-i-init : goal.loop-i-init
@@ -22,7 +22,7 @@ pub loop-i-preserved : goal.loop-i-preserved
 loop-i-preserved c =
     let l = c.loop-i in
     let a = c.args in
-    let w = word (goal.at.loop-i-preserved c).After-x-1 in
+    let w = word (goal.at.loop-i-preserved c).In-loop-i in
     rw (to_z-of_z w64 _ (fits-64 w), same_word _ w) (below_more (pos 0) (λ p _. get_or a.s.now p (pos 0)) a.x.now l.x l.i l.invariant (omega arith))
 
 pub returns : goal.returns
