@@ -316,11 +316,11 @@ fn untested_b(c: Call) -> bool
 
 // ---- the tests in turn
 
-// Refuses with the place if the test failed and the routine has the argument.
+// Refuses with the place if the test failed and the routine has the argument. (With && in place of & a TRSM of order 4 takes 5 to 8 % more instructions.)
 fn test(bad: bool, place: u8) -> Result<(), Refusal>
     ensures { Gives (if bad then place else 0) result }
 {
-    if bad && place != 0 {
+    if bad & (place != 0) {
         return Err(Refusal { number: place });
     }
     Ok(())
