@@ -1,3 +1,4 @@
 pub mod Signed
 pub mod Room
+pub mod Turns
 pub mod Refusals

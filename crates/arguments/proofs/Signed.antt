@@ -13,9 +13,13 @@ use mir.Val.{Fits, SFits, to_z, of_z}
 use mir.ValLaws.{to_z-of_z}
 use Rattle.definitions.specs.Check.{nat, negative}
 
--- A function's value at a number that went through its bits, as an argument or a field does.
+-- A number that went through its bits, as an argument or a field does.
+pub word_same : (z : ℤ) → mag z < 2 ^ 31 → to_z w32 (of_z w32 z) ≡ z
+word_same z fits = to_z-of_z w32 z (record { sfits = fits })
+
+-- A function's value at such a number.
 pub same : {A : Type 0} (f : ℤ → A) {r : A} (z : ℤ) → mag z < 2 ^ 31 → r ≡ f (to_z w32 (of_z w32 z)) → r ≡ f z
-same f z fits h = h ∙ ap f (to_z-of_z w32 z (record { sfits = fits }))
+same f z fits h = h ∙ ap f (word_same z fits)
 
 pub sign : (z : ℤ) → lt_z z (pos 0) ≡ negative z
 sign (pos n) = le-ltb n 0 (omega arith)

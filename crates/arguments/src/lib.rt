@@ -1,4 +1,4 @@
-// The argument check of the six routines, and the number of strips of a call.
+// The argument check of the six routines, and the number of strips of a call. Tests whose value goes on are joined by | and &, which have no branches.
 #![tactic(auto)]
 
 ghost use Rattle.std.specs.Prelude.{◌≡◌, true, false, ◌<◌, eqb, if◌then◌else◌};
@@ -8,42 +8,28 @@ ghost use Rattle.definitions.specs.Call.{◌by◌};
 ghost use Rattle.definitions.specs.Check as Check;
 ghost use Rattle.arguments.specs.Tests as Tests;
 ghost use Rattle.arguments.specs.Strip.{strip_start};
+ghost use Rattle.arguments.specs.Refusal.{Gives};
 
 use definitions::{Args, Call, Checked, Diagonal, Routine, Shape, Side, Transpose, Triangle};
 
-// The argument places of the six routines, 0 where the routine lacks the argument.
-// Columns: side, uplo, trans or transa, transb, diag; m, n, k; ld of A, B, C; arrays A, B, C.
-const PLACES: [[u8; 14]; 6] = [
-    [0, 0, 1, 2, 0, 3, 4, 5, 8, 10, 13, 7, 9, 12],
-    [1, 2, 0, 0, 0, 3, 4, 0, 7, 9, 12, 6, 8, 11],
-    [0, 1, 2, 0, 0, 0, 3, 4, 7, 0, 10, 6, 0, 9],
-    [0, 1, 2, 0, 0, 0, 3, 4, 7, 9, 12, 6, 8, 11],
-    [1, 2, 3, 0, 4, 5, 6, 0, 9, 11, 0, 8, 10, 0],
-    [1, 2, 3, 0, 4, 5, 6, 0, 9, 11, 0, 8, 10, 0],
-];
+// Why arguments are refused: the number that is given.
+#[derive(Clone, Copy)]
+pub struct Refusal {
+    pub number: u8,
+}
 
-// The routine's row of the table.
+// The argument places of the routine, 0 where it lacks the argument.
+// Columns: side, uplo, trans or transa, transb, diag; m, n, k; ld of A, B, C; arrays A, B, C.
 fn places(routine: Routine) -> [u8; 14]
     ensures { result ≡ Tests.row_of routine }
 {
     match routine {
-        Routine::Gemm => PLACES[0],
-        Routine::Symm => PLACES[1],
-        Routine::Syrk => PLACES[2],
-        Routine::Syr2k => PLACES[3],
-        Routine::Trmm => PLACES[4],
-        Routine::Trsm => PLACES[5],
+        Routine::Gemm => [0, 0, 1, 2, 0, 3, 4, 5, 8, 10, 13, 7, 9, 12],
+        Routine::Symm => [1, 2, 0, 0, 0, 3, 4, 0, 7, 9, 12, 6, 8, 11],
+        Routine::Syrk => [0, 1, 2, 0, 0, 0, 3, 4, 7, 0, 10, 6, 0, 9],
+        Routine::Syr2k => [0, 1, 2, 0, 0, 0, 3, 4, 7, 9, 12, 6, 8, 11],
+        Routine::Trmm | Routine::Trsm => [1, 2, 3, 0, 4, 5, 6, 0, 9, 11, 0, 8, 10, 0],
     }
-}
-
-// One test more: the number of the tests before it if one of them failed, else the place if this one does.
-fn first(sofar: u8, bad: bool, place: u8) -> u8
-    ensures { result ≡ Tests.first_of sofar bad place }
-{
-    if sofar != 0 {
-        return sofar;
-    }
-    if bad { place } else { 0 }
 }
 
 // ---- numbers and codes
@@ -69,6 +55,7 @@ fn is(letter: u8, code: i32) -> bool
     (n == letter as u32) | (n == letter as u32 + 32)
 }
 
+// A code that is no letter of its kind counts as the last case, as the definitions have it, so these four are no TryFrom.
 fn side_of(code: i32) -> Side
     ensures { result ≡ Check.side_of code }
 {
@@ -166,69 +153,38 @@ pub fn width(w: i32) -> usize
 fn has_m(routine: Routine) -> bool
     ensures { result ≡ Calls.has_m routine }
 {
-    match routine {
-        Routine::Gemm => true,
-        Routine::Symm => true,
-        Routine::Syrk => false,
-        Routine::Syr2k => false,
-        Routine::Trmm => true,
-        Routine::Trsm => true,
-    }
+    !matches!(routine, Routine::Syrk | Routine::Syr2k)
 }
 
 fn has_k(routine: Routine) -> bool
     ensures { result ≡ Calls.has_k routine }
 {
-    match routine {
-        Routine::Gemm => true,
-        Routine::Symm => false,
-        Routine::Syrk => true,
-        Routine::Syr2k => true,
-        Routine::Trmm => false,
-        Routine::Trsm => false,
-    }
+    matches!(routine, Routine::Gemm | Routine::Syrk | Routine::Syr2k)
 }
 
 fn in_place(routine: Routine) -> bool
     ensures { result ≡ Calls.in_place routine }
 {
-    match routine {
-        Routine::Gemm => false,
-        Routine::Symm => false,
-        Routine::Syrk => false,
-        Routine::Syr2k => false,
-        Routine::Trmm => true,
-        Routine::Trsm => true,
-    }
-}
-
-// The rows of the output: n in a routine without m.
-fn rows_of(routine: Routine, m: u32, n: u32) -> u32
-    ensures { result ≡ (if Calls.has_m routine then m else n) }
-{
-    if has_m(routine) { m } else { n }
+    matches!(routine, Routine::Trmm | Routine::Trsm)
 }
 
 // The call that the arguments make, accepted or not.
 pub fn call_of(g: Args) -> Call
     ensures { result ≡ Check.call_of g }
 {
-    let routine = g.routine;
-    let alpha = g.alpha;
-    let beta = g.beta;
     let n = size(g.n);
     Call {
-        routine: routine,
+        routine: g.routine,
         side: side_of(g.side),
         uplo: uplo_of(g.uplo),
         transa: trans_of(g.transa),
         transb: trans_of(g.transb),
         diag: diag_of(g.diag),
-        m: rows_of(routine, size(g.m), n),
-        n: n,
+        m: if has_m(g.routine) { size(g.m) } else { n },
+        n,
         k: size(g.k),
-        alpha: alpha,
-        beta: beta,
+        alpha: g.alpha,
+        beta: g.beta,
         lda: size(g.lda),
         ldb: size(g.ldb),
         ldc: size(g.ldc),
@@ -246,24 +202,14 @@ fn is_empty(c: Call) -> bool
 fn start_only(c: Call) -> bool
     ensures { result ≡ Calls.start_only c }
 {
-    let routine = c.routine;
-    let alpha = c.alpha;
-    let zero = alpha.is_zero();
-    let has = has_k(routine);
-    zero | (has & (c.k == 0))
+    c.alpha.is_zero() | (has_k(c.routine) & (c.k == 0))
 }
 
 // There is nothing to do.
 pub fn is_idle(c: Call) -> bool
     ensures { result ≡ Check.idle c }
 {
-    let routine = c.routine;
-    let beta = c.beta;
-    let empty = is_empty(c);
-    let start = start_only(c);
-    let inplace = in_place(routine);
-    let one = beta.is_one();
-    empty | (!inplace & (start & one))
+    is_empty(c) | (!in_place(c.routine) & (start_only(c) & c.beta.is_one()))
 }
 
 // ---- shapes
@@ -282,53 +228,34 @@ fn stored_as(t: Transpose, p: u32, q: u32) -> Shape
 fn square(c: Call) -> Shape
     ensures { result ≡ (Calls.order c by Calls.order c) }
 {
-    let s = c.side;
-    match s {
-        Side::Left => Shape {
-            rows: c.m,
-            cols: c.m,
-        },
-        Side::Right => Shape {
-            rows: c.n,
-            cols: c.n,
-        },
+    let order = match c.side {
+        Side::Left => c.m,
+        Side::Right => c.n,
+    };
+    Shape {
+        rows: order,
+        cols: order,
     }
 }
 
 fn shape_a(c: Call) -> Shape
     ensures { result ≡ Calls.shape_a c.routine c }
 {
-    let routine = c.routine;
-    let t = c.transa;
-    match routine {
-        Routine::Gemm => stored_as(t, c.m, c.k),
-        Routine::Symm => square(c),
-        Routine::Syrk => stored_as(t, c.n, c.k),
-        Routine::Syr2k => stored_as(t, c.n, c.k),
-        Routine::Trmm => square(c),
-        Routine::Trsm => square(c),
+    match c.routine {
+        Routine::Gemm => stored_as(c.transa, c.m, c.k),
+        Routine::Syrk | Routine::Syr2k => stored_as(c.transa, c.n, c.k),
+        Routine::Symm | Routine::Trmm | Routine::Trsm => square(c),
     }
 }
 
 fn shape_b(c: Call) -> Shape
     ensures { result ≡ Calls.shape_b c.routine c }
 {
-    let routine = c.routine;
-    let t = c.transa;
-    let u = c.transb;
-    match routine {
-        Routine::Gemm => stored_as(u, c.k, c.n),
-        Routine::Symm => Shape {
-            rows: c.m,
-            cols: c.n,
-        },
+    match c.routine {
+        Routine::Gemm => stored_as(c.transb, c.k, c.n),
         Routine::Syrk => Shape { rows: 0, cols: 0 },
-        Routine::Syr2k => stored_as(t, c.n, c.k),
-        Routine::Trmm => Shape {
-            rows: c.m,
-            cols: c.n,
-        },
-        Routine::Trsm => Shape {
+        Routine::Syr2k => stored_as(c.transa, c.n, c.k),
+        Routine::Symm | Routine::Trmm | Routine::Trsm => Shape {
             rows: c.m,
             cols: c.n,
         },
@@ -338,26 +265,16 @@ fn shape_b(c: Call) -> Shape
 pub fn shape_c(c: Call) -> Shape
     ensures { result ≡ Calls.shape_c c.routine c }
 {
-    let routine = c.routine;
-    match routine {
-        Routine::Gemm => Shape {
+    match c.routine {
+        Routine::Gemm | Routine::Symm => Shape {
             rows: c.m,
             cols: c.n,
         },
-        Routine::Symm => Shape {
-            rows: c.m,
-            cols: c.n,
-        },
-        Routine::Syrk => Shape {
+        Routine::Syrk | Routine::Syr2k => Shape {
             rows: c.n,
             cols: c.n,
         },
-        Routine::Syr2k => Shape {
-            rows: c.n,
-            cols: c.n,
-        },
-        Routine::Trmm => Shape { rows: 0, cols: 0 },
-        Routine::Trsm => Shape { rows: 0, cols: 0 },
+        Routine::Trmm | Routine::Trsm => Shape { rows: 0, cols: 0 },
     }
 }
 
@@ -367,10 +284,7 @@ pub fn shape_c(c: Call) -> Shape
 fn needed(ld: u32, p: u32, q: u32) -> usize
     ensures { result ≡ Storage.needed ld p q }
 {
-    if p == 0 {
-        return 0;
-    }
-    if q == 0 {
+    if p == 0 || q == 0 {
         return 0;
     }
     (ld as usize) * (q as usize - 1) + p as usize
@@ -393,93 +307,90 @@ pub fn untested(c: Call) -> bool
 fn untested_b(c: Call) -> bool
     ensures { result ≡ (if Calls.in_place c.routine then Calls.empty c else Check.untested c) }
 {
-    let routine = c.routine;
-    if in_place(routine) {
+    if in_place(c.routine) {
         is_empty(c)
     } else {
         untested(c)
     }
 }
 
-// ---- the tests in turn, each handing on the number so far
+// ---- the tests in turn
 
-fn codes(g: Args, row: [u8; 14]) -> u8
-    ensures { result ≡ Tests.tests g row 0 Tests.codes }
+// Refuses with the place if the test failed and the routine has the argument. (With && in place of & a TRSM of order 4 takes 5 to 8 % more instructions.)
+fn test(bad: bool, place: u8) -> Result<(), Refusal>
+    ensures { Gives (if bad then place else 0) result }
 {
-    let e1 = first(0, bad_side(g.side), row[0]);
-    let e2 = first(e1, bad_uplo(g.uplo), row[1]);
-    let e3 = first(e2, bad_trans(g.transa), row[2]);
-    let e4 = first(e3, bad_trans(g.transb), row[3]);
-    first(e4, bad_diag(g.diag), row[4])
-}
-
-fn sizes(g: Args, row: [u8; 14], sofar: u8) -> u8
-    ensures { result ≡ Tests.tests g row sofar Tests.sizes }
-{
-    let e1 = first(sofar, negative(g.m), row[5]);
-    let e2 = first(e1, negative(g.n), row[6]);
-    first(e2, negative(g.k), row[7])
-}
-
-fn leading(g: Args, a: Shape, b: Shape, c: Shape, row: [u8; 14], sofar: u8) -> u8
-    requires { Tests.AreShapes g.routine (Check.call_of g) a b c }
-    ensures { result ≡ Tests.tests g row sofar Tests.leading }
-{
-    let e1 = first(sofar, bad_ld(g.lda, a), row[8]);
-    let e2 = first(e1, bad_ld(g.ldb, b), row[9]);
-    first(e2, bad_ld(g.ldc, c), row[10])
-}
-
-fn lengths(g: Args, k: Call, a: Shape, b: Shape, c: Shape, row: [u8; 14], sofar: u8) -> u8
-    requires { (k ≡ Check.call_of g) × Tests.AreShapes g.routine (Check.call_of g) a b c }
-    ensures { result ≡ Tests.tests g row sofar Tests.lengths }
-{
-    let short_a = !untested(k) & short(g.lena, k.lda, a);
-    let short_b = !untested_b(k) & short(g.lenb, k.ldb, b);
-    let short_c = !is_empty(k) & short(g.lenc, k.ldc, c);
-    let e1 = first(sofar, short_a, row[11]);
-    let e2 = first(e1, short_b, row[12]);
-    first(e2, short_c, row[13])
-}
-
-// The place of the first code, size or leading dimension that is bad, or 0.
-pub fn bad_place(g: Args, k: Call) -> u8
-    requires { k ≡ Check.call_of g }
-    ensures { result ≡ Check.first_bad g (Check.places g.routine) }
-{
-    let routine = g.routine;
-    let row = places(routine);
-    let a = shape_a(k);
-    let b = shape_b(k);
-    let c = shape_c(k);
-    let e1 = codes(g, row);
-    let e2 = sizes(g, row, e1);
-    leading(g, a, b, c, row, e2)
-}
-
-// The place of the first array that is too short, or 0, after tests whose number is `sofar`.
-pub fn bad_array(g: Args, k: Call, sofar: u8) -> u8
-    requires { k ≡ Check.call_of g }
-    ensures { result ≡ (if eqb sofar 0 then Check.first_bad g (Check.arrays g.routine) else sofar) }
-{
-    let routine = g.routine;
-    let row = places(routine);
-    let a = shape_a(k);
-    let b = shape_b(k);
-    let c = shape_c(k);
-    lengths(g, k, a, b, c, row, sofar)
-}
-
-// The number of a refusal, or 0.
-fn refusal(w: i32, r: i32, g: Args, k: Call) -> u8
-    requires { k ≡ Check.call_of g }
-    ensures { result ≡ Check.refusal w r g }
-{
-    if bad_width(w) | bad_width(r) {
-        return 30;
+    if bad & (place != 0) {
+        return Err(Refusal { number: place });
     }
-    let e = bad_place(g, k);
-    bad_array(g, k, e)
+    Ok(())
+}
+
+fn codes(g: Args, row: [u8; 14]) -> Result<(), Refusal>
+    ensures { Gives (Tests.tests g row Tests.codes) result }
+{
+    test(bad_side(g.side), row[0])?;
+    test(bad_uplo(g.uplo), row[1])?;
+    test(bad_trans(g.transa), row[2])?;
+    test(bad_trans(g.transb), row[3])?;
+    test(bad_diag(g.diag), row[4])
+}
+
+fn sizes(g: Args, row: [u8; 14]) -> Result<(), Refusal>
+    ensures { Gives (Tests.tests g row Tests.sizes) result }
+{
+    test(negative(g.m), row[5])?;
+    test(negative(g.n), row[6])?;
+    test(negative(g.k), row[7])
+}
+
+fn leading(g: Args, k: Call, row: [u8; 14]) -> Result<(), Refusal>
+    requires { k ≡ Check.call_of g }
+    ensures { Gives (Tests.tests g row Tests.leading) result }
+{
+    test(bad_ld(g.lda, shape_a(k)), row[8])?;
+    test(bad_ld(g.ldb, shape_b(k)), row[9])?;
+    test(bad_ld(g.ldc, shape_c(k)), row[10])
+}
+
+fn lengths(g: Args, k: Call, row: [u8; 14]) -> Result<(), Refusal>
+    requires { k ≡ Check.call_of g }
+    ensures { Gives (Tests.tests g row Tests.lengths) result }
+{
+    test(!untested(k) & short(g.lena, k.lda, shape_a(k)), row[11])?;
+    test(!untested_b(k) & short(g.lenb, k.ldb, shape_b(k)), row[12])?;
+    test(!is_empty(k) & short(g.lenc, k.ldc, shape_c(k)), row[13])
+}
+
+// Refuses with the place of the first code, size or leading dimension that is bad.
+pub fn test_words(g: Args, k: Call) -> Result<(), Refusal>
+    requires { k ≡ Check.call_of g }
+    ensures { Gives (Check.first_bad g (Check.places g.routine)) result }
+{
+    let row = places(g.routine);
+    codes(g, row)?;
+    sizes(g, row)?;
+    leading(g, k, row)
+}
+
+// Refuses with the place of the first array that is too short.
+pub fn test_arrays(g: Args, k: Call) -> Result<(), Refusal>
+    requires { k ≡ Check.call_of g }
+    ensures { Gives (Check.first_bad g (Check.arrays g.routine)) result }
+{
+    lengths(g, k, places(g.routine))
+}
+
+// Refuses with 30 for a bad width, else as the other tests do.
+fn test_all(w: i32, r: i32, g: Args, k: Call) -> Result<(), Refusal>
+    requires { k ≡ Check.call_of g }
+    ensures { Gives (Check.refusal w r g) result }
+{
+    if bad_width(w) || bad_width(r) {
+        return Err(Refusal { number: 30 });
+    }
+    test_words(g, k)?;
+    test_arrays(g, k)
 }
 
 // The argument check: refused with a number, nothing to do, or ready.
@@ -487,9 +398,8 @@ pub fn check(w: i32, r: i32, g: Args) -> Checked
     ensures { result ≡ Check.checked w r g }
 {
     let c = call_of(g);
-    let number = refusal(w, r, g, c);
-    if number != 0 {
-        return Checked::Refused(number as u32);
+    if let Err(refusal) = test_all(w, r, g, c) {
+        return Checked::Refused(refusal.number as u32);
     }
     if is_idle(c) {
         return Checked::Idle;
@@ -499,29 +409,18 @@ pub fn check(w: i32, r: i32, g: Args) -> Checked
 
 // ---- strips
 
-fn is_right(s: Side) -> bool
-    ensures { result ≡ Calls.by_side s false true }
-{
-    match s {
-        Side::Left => false,
-        Side::Right => true,
-    }
-}
-
 // Strips cut the rows of the output, not its columns.
 fn cuts_rows(routine: Routine, s: Side) -> bool
     ensures { result ≡ Calls.cuts_rows routine s }
 {
-    in_place(routine) & is_right(s)
+    in_place(routine) & (s == Side::Right)
 }
 
 // The columns of the output, or its rows where strips cut rows.
 pub fn extent(c: Call) -> usize
     ensures { (result ≡ Calls.extent c) × (result < 4294967296) }
 {
-    let routine = c.routine;
-    let s = c.side;
-    if cuts_rows(routine, s) {
+    if cuts_rows(c.routine, c.side) {
         c.m as usize
     } else {
         c.n as usize
@@ -529,10 +428,10 @@ pub fn extent(c: Call) -> usize
 }
 
 // The output's leading dimension.
-fn ld_output(routine: Routine, ldb: u32, ldc: u32) -> u32
-    ensures { result ≡ (if Calls.in_place routine then ldb else ldc) }
+fn ld_output(c: Call) -> u32
+    ensures { result ≡ Calls.ld_output c }
 {
-    if in_place(routine) { ldb } else { ldc }
+    if in_place(c.routine) { c.ldb } else { c.ldc }
 }
 
 // The element of the output's array at which the strip from `from` on starts.
@@ -540,12 +439,10 @@ pub fn strip_start(c: Call, from: usize) -> usize
     requires { strip_start c from < 18446744073709551616 }
     ensures { result ≡ strip_start c from }
 {
-    let routine = c.routine;
-    let s = c.side;
-    if cuts_rows(routine, s) {
+    if cuts_rows(c.routine, c.side) {
         return from;
     }
-    from * (ld_output(routine, c.ldb, c.ldc) as usize)
+    from * (ld_output(c) as usize)
 }
 
 // The number of strips of width w.

@@ -67,16 +67,17 @@ module _ (w r : ℤ) (g : Args) (k : Checked) (answer : k ≡ checked w r g) whe
   pub small : (e : ℕ) → k ≡ Refused e → e ≤ 30
   small e h = (CheckLaws.when-refused w r g e (sym answer ∙ h)).2
 
-  -- `lb` is the length of the B that is only read, `len` that of the output
-  pub goes_on : (lb len v s : ℕ) → g.lenb ≡ (if in_place g.routine then len else lb) → g.lenc ≤ len → v ≡ width w → s ≡ width r → (c : Call) → k ≡ Ready c
-      → FitsArrays c g.lena lb len × (0 < v) × (v ≤ 64) × (0 < s) × (s ≤ 64)
-  goes_on lb len v s eb lc ev es c h =
+  -- `la` is the length of A, `lb` that of the B that is only read, `len` that of the output
+  pub goes_on : (la lb len v s : ℕ) → g.lena ≡ la → g.lenb ≡ (if in_place g.routine then len else lb) → g.lenc ≤ len → v ≡ width w → s ≡ width r → (c : Call) → k ≡ Ready c
+      → FitsArrays c la lb len × (0 < v) × (v ≤ 64) × (0 < s) × (s ≤ 64)
+  goes_on la lb len v s ea eb lc ev es c h =
       let e = sym answer ∙ h in
       let ok = CheckLaws.when-ready w r g c e in
       let x = strip-width w r g ok.0 in
       let y = block_size w r g ok.0 in
       let is = ap (λ (c : Call). c.routine) ok.2 ∙ routine-kept g in (
-        subst (λ (n : ℕ). Fits c.routine c g.lena n len) (eb ∙ ap (λ (f : Routine). if in_place f then len else lb) (sym is)) (fits-longer c _ _ _ len lc (ready-fits w r g c e)),
+        subst (λ (n : ℕ). Fits c.routine c la n len) (eb ∙ ap (λ (f : Routine). if in_place f then len else lb) (sym is))
+            (subst (λ (n : ℕ). Fits c.routine c n g.lenb len) ea (fits-longer c _ _ _ len lc (ready-fits w r g c e))),
         omega (arith, x),
         omega (arith, x),
         omega (arith, y),

@@ -1,7 +1,8 @@
 // The direct calls. Each checks its arguments, and what is ready goes strip by strip through the update of its routine.
 #![tactic(auto)]
 
-ghost use Rattle.std.specs.Prelude.{◌≡◌, ℕ, ◌≤◌, ◌<◌, length};
+ghost use Rattle.std.specs.Prelude.{◌≡◌, ℕ, ◌≤◌, ◌<◌, length, if◌then◌else◌};
+ghost use Rattle.definitions.specs.Call as Calls;
 ghost use Rattle.definitions.specs.Check as Check;
 ghost use Rattle.definitions.specs.Direct as Direct;
 ghost use Rattle.definitions.specs.declared.Call.{Call as CallOf};
@@ -33,6 +34,15 @@ fn answered(answer: Checked, a: &[f64], b: &[f64], out: &mut [f64], w: usize, r:
     }
 }
 
+// The direct call of the arguments: b is the B that is only read, and out is the output.
+fn direct(w: i32, r: i32, g: Args, a: &[f64], b: &[f64], out: &mut [f64]) -> SolveEnd
+    requires { (g.lena ≡ length a.now) × (g.lenb ≡ (if Calls.in_place g.routine then length out.old else length b.now)) × (g.lenc ≤ length out.old) }
+    ensures { (result ≡ (Direct.solved w r g a.now b.now out.old).end) × (out.new ≡ (Direct.solved w r g a.now b.now out.old).array) }
+{
+    let answer = arguments::check(w, r, g);
+    answered(answer, a, b, out, arguments::width(w), arguments::width(r))
+}
+
 // GEMM: C becomes alpha op(A) op(B) + beta C. 0, or the number of a refusal.
 pub fn gemm(
     transa: i32,
@@ -56,26 +66,22 @@ pub fn gemm(
 {
     let g = Args {
         routine: Routine::Gemm,
-        side: 0,
-        uplo: 0,
-        transa: transa,
-        transb: transb,
-        diag: 0,
-        m: m,
-        n: n,
-        k: k,
-        alpha: Scalar::of(alpha),
-        beta: Scalar::of(beta),
-        lda: lda,
-        ldb: ldb,
-        ldc: ldc,
+        transa,
+        transb,
+        m,
+        n,
+        k,
+        alpha: Scalar::from(alpha),
+        beta: Scalar::from(beta),
+        lda,
+        ldb,
+        ldc,
         lena: a.len(),
         lenb: b.len(),
         lenc: c.len(),
+        ..Args::NONE
     };
-    let answer = arguments::check(w, r, g);
-    let end = answered(answer, a, b, c, arguments::width(w), arguments::width(r));
-    end.number
+    direct(w, r, g, a, b, c).number
 }
 
 // SYMM: C becomes alpha A B + beta C (side L) or alpha B A + beta C (side R), A symmetric.
@@ -100,26 +106,21 @@ pub fn symm(
 {
     let g = Args {
         routine: Routine::Symm,
-        side: side,
-        uplo: uplo,
-        transa: 0,
-        transb: 0,
-        diag: 0,
-        m: m,
-        n: n,
-        k: 0,
-        alpha: Scalar::of(alpha),
-        beta: Scalar::of(beta),
-        lda: lda,
-        ldb: ldb,
-        ldc: ldc,
+        side,
+        uplo,
+        m,
+        n,
+        alpha: Scalar::from(alpha),
+        beta: Scalar::from(beta),
+        lda,
+        ldb,
+        ldc,
         lena: a.len(),
         lenb: b.len(),
         lenc: c.len(),
+        ..Args::NONE
     };
-    let answer = arguments::check(w, r, g);
-    let end = answered(answer, a, b, c, arguments::width(w), arguments::width(r));
-    end.number
+    direct(w, r, g, a, b, c).number
 }
 
 // SYRK: triangle uplo of C, diagonal included, becomes that of alpha op(A) op(A)T + beta C. It has no B.
@@ -140,36 +141,21 @@ pub fn syrk(
     ensures { (result ≡ (Direct.syrk uplo trans n k alpha a.now lda beta c.old ldc w r).number)
         × (c.new ≡ (Direct.syrk uplo trans n k alpha a.now lda beta c.old ldc w r).array) }
 {
-    let none = [0.0f64; 0];
     let g = Args {
         routine: Routine::Syrk,
-        side: 0,
-        uplo: uplo,
+        uplo,
         transa: trans,
-        transb: 0,
-        diag: 0,
-        m: 0,
-        n: n,
-        k: k,
-        alpha: Scalar::of(alpha),
-        beta: Scalar::of(beta),
-        lda: lda,
-        ldb: 0,
-        ldc: ldc,
+        n,
+        k,
+        alpha: Scalar::from(alpha),
+        beta: Scalar::from(beta),
+        lda,
+        ldc,
         lena: a.len(),
-        lenb: 0,
         lenc: c.len(),
+        ..Args::NONE
     };
-    let answer = arguments::check(w, r, g);
-    let end = answered(
-        answer,
-        a,
-        &none,
-        c,
-        arguments::width(w),
-        arguments::width(r),
-    );
-    end.number
+    direct(w, r, g, a, &[], c).number
 }
 
 // SYR2K: triangle uplo of C, diagonal included, becomes that of alpha op(A) op(B)T + alpha op(B) op(A)T + beta C.
@@ -194,26 +180,21 @@ pub fn syr2k(
 {
     let g = Args {
         routine: Routine::Syr2k,
-        side: 0,
-        uplo: uplo,
+        uplo,
         transa: trans,
-        transb: 0,
-        diag: 0,
-        m: 0,
-        n: n,
-        k: k,
-        alpha: Scalar::of(alpha),
-        beta: Scalar::of(beta),
-        lda: lda,
-        ldb: ldb,
-        ldc: ldc,
+        n,
+        k,
+        alpha: Scalar::from(alpha),
+        beta: Scalar::from(beta),
+        lda,
+        ldb,
+        ldc,
         lena: a.len(),
         lenb: b.len(),
         lenc: c.len(),
+        ..Args::NONE
     };
-    let answer = arguments::check(w, r, g);
-    let end = answered(answer, a, b, c, arguments::width(w), arguments::width(r));
-    end.number
+    direct(w, r, g, a, b, c).number
 }
 
 // TRMM: B becomes alpha op(A) B (side L) or alpha B op(A) (side R), A triangular. It has no C.
@@ -234,36 +215,22 @@ pub fn trmm(
 ) -> i32
     ensures { (result ≡ (Direct.trmm side uplo transa diag m n alpha a.now lda b.old ldb w r).number) × (b.new ≡ (Direct.trmm side uplo transa diag m n alpha a.now lda b.old ldb w r).array) }
 {
-    let none = [0.0f64; 0];
     let g = Args {
         routine: Routine::Trmm,
-        side: side,
-        uplo: uplo,
-        transa: transa,
-        transb: 0,
-        diag: diag,
-        m: m,
-        n: n,
-        k: 0,
-        alpha: Scalar::of(alpha),
-        beta: Scalar::Zero,
-        lda: lda,
-        ldb: ldb,
-        ldc: 0,
+        side,
+        uplo,
+        transa,
+        diag,
+        m,
+        n,
+        alpha: Scalar::from(alpha),
+        lda,
+        ldb,
         lena: a.len(),
         lenb: b.len(),
-        lenc: 0,
+        ..Args::NONE
     };
-    let answer = arguments::check(w, r, g);
-    let end = answered(
-        answer,
-        a,
-        &none,
-        b,
-        arguments::width(w),
-        arguments::width(r),
-    );
-    end.number
+    direct(w, r, g, a, &[], b).number
 }
 
 // TRSM: B becomes X with op(A) X = alpha B (side L) or X op(A) = alpha B (side R), A triangular. It has no C. It also hands back the lowest
@@ -285,33 +252,20 @@ pub fn trsm(
 ) -> SolveEnd
     ensures { (result ≡ (Direct.trsm side uplo transa diag m n alpha a.now lda b.old ldb w r).end) × (b.new ≡ (Direct.trsm side uplo transa diag m n alpha a.now lda b.old ldb w r).array) }
 {
-    let none = [0.0f64; 0];
     let g = Args {
         routine: Routine::Trsm,
-        side: side,
-        uplo: uplo,
-        transa: transa,
-        transb: 0,
-        diag: diag,
-        m: m,
-        n: n,
-        k: 0,
-        alpha: Scalar::of(alpha),
-        beta: Scalar::Zero,
-        lda: lda,
-        ldb: ldb,
-        ldc: 0,
+        side,
+        uplo,
+        transa,
+        diag,
+        m,
+        n,
+        alpha: Scalar::from(alpha),
+        lda,
+        ldb,
         lena: a.len(),
         lenb: b.len(),
-        lenc: 0,
+        ..Args::NONE
     };
-    let answer = arguments::check(w, r, g);
-    answered(
-        answer,
-        a,
-        &none,
-        b,
-        arguments::width(w),
-        arguments::width(r),
-    )
+    direct(w, r, g, a, &[], b)
 }

@@ -4,7 +4,7 @@
 ghost use Rattle.std.specs.Prelude.{◌≡◌};
 ghost use Rattle.definitions.specs.Number as Number;
 
-#[derive(Clone, Copy)]
+#[derive(Clone, Copy, PartialEq, Eq)]
 pub enum Routine {
     Gemm,
     Symm,
@@ -14,25 +14,25 @@ pub enum Routine {
     Trsm,
 }
 
-#[derive(Clone, Copy)]
+#[derive(Clone, Copy, PartialEq, Eq)]
 pub enum Side {
     Left,
     Right,
 }
 
-#[derive(Clone, Copy)]
+#[derive(Clone, Copy, PartialEq, Eq)]
 pub enum Triangle {
     Lower,
     Upper,
 }
 
-#[derive(Clone, Copy)]
+#[derive(Clone, Copy, PartialEq, Eq)]
 pub enum Transpose {
     No,
     Yes,
 }
 
-#[derive(Clone, Copy)]
+#[derive(Clone, Copy, PartialEq, Eq)]
 pub enum Diagonal {
     Unit,
     Nonunit,
@@ -94,6 +94,29 @@ pub struct Shape {
     pub cols: u32,
 }
 
+impl Args {
+    // The arguments that a routine lacks: each counts as 0. The routine itself is always given.
+    pub const NONE: Args = Args {
+        routine: Routine::Gemm,
+        side: 0,
+        uplo: 0,
+        transa: 0,
+        transb: 0,
+        diag: 0,
+        m: 0,
+        n: 0,
+        k: 0,
+        alpha: Scalar::Zero,
+        beta: Scalar::Zero,
+        lda: 0,
+        ldb: 0,
+        ldc: 0,
+        lena: 0,
+        lenb: 0,
+        lenc: 0,
+    };
+}
+
 // The answer of the argument check.
 #[derive(Clone, Copy)]
 pub enum Checked {
@@ -137,11 +160,11 @@ pub struct RunEnd {
     pub zero: i32,
 }
 
-impl Scalar {
-    // The case of alpha or beta.
-    pub fn of(x: f64) -> Scalar
-        ensures { result ≡ Number.scalar x }
-    {
+// The case of alpha or beta.
+impl From<f64> for Scalar {
+    ghost from_gives = { λ x s. s ≡ Number.scalar x };
+
+    fn from(x: f64) -> Scalar {
         if x == 0.0 {
             return Scalar::Zero;
         }
@@ -150,25 +173,19 @@ impl Scalar {
         }
         Scalar::Other(x)
     }
+}
 
+impl Scalar {
     pub fn is_zero(self) -> bool
         ensures { result ≡ Number.is_zero self }
     {
-        match self {
-            Scalar::Zero => true,
-            Scalar::One => false,
-            Scalar::Other(_) => false,
-        }
+        matches!(self, Scalar::Zero)
     }
 
     pub fn is_one(self) -> bool
         ensures { result ≡ Number.is_one self }
     {
-        match self {
-            Scalar::Zero => false,
-            Scalar::One => true,
-            Scalar::Other(_) => false,
-        }
+        matches!(self, Scalar::One)
     }
 
     // The factor that the scalar stands for.

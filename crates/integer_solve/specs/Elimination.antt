@@ -12,12 +12,10 @@
 --     taken       the remainders once unknown j has the value x
 --     QuotientOf  what the quotient of s by d is
 --     Eliminated  what the elimination comes to: X in the first n places, or there is none
-use Rattle.std.specs.Prelude.{ℕ, ◌+◌, ◌≤◌, ◌<◌, ◌≡◌, Bool, true, false, List, leb, ltb, eqb, ℤ, pos, nat_abs, ◌-ℤ◌, ◌*ℤ◌, get_or, if◌then◌else◌}
+use Rattle.std.specs.Prelude.{ℕ, ◌+◌, ◌≤◌, ◌<◌, ◌≡◌, Bool, true, false, List, leb, ltb, eqb, ℤ, pos, nat_abs, ◌-ℤ◌, ◌*ℤ◌, get_or, Option, Some, None, if◌then◌else◌}
 use Rattle.definitions.specs.declared.Triangle.{Triangle}
 use Rattle.definitions.specs.declared.Triangle.TheVariants.{Lower, Upper}
 use Rattle.integer_solve.specs.Equations.{Word, Solves, entry, left_side}
-use Rattle.integer_solve.specs.declared.Quotient.{Quotient}
-use Rattle.integer_solve.specs.declared.Quotient.TheVariants.{Value, NoValue}
 
 unfoldable pub triangle : Bool → Triangle
 triangle false = Lower
@@ -50,9 +48,9 @@ less_term a at x lo i s = if leb lo i then s -ℤ get_or a (at + i) (pos 0) *ℤ
 unfoldable pub taken : Bool → ℕ → List ℤ → ℕ → ℤ → ℕ → ℤ → ℤ
 taken down n a j x i s = if eqb i j then x else if ltb i n then s -ℤ entry (triangle down) n a i j *ℤ x else s
 
-abbrev pub QuotientOf : ℤ → ℤ → Quotient → Type 0
-QuotientOf s d (Value x) = Word x × (d *ℤ x ≡ s)
-QuotientOf s d NoValue = (x : ℤ) → Word x → d *ℤ x ≡ s → ⊥
+abbrev pub QuotientOf : ℤ → ℤ → Option ℤ → Type 0
+QuotientOf s d (Some x) = Word x × (d *ℤ x ≡ s)
+QuotientOf s d None = (x : ℤ) → Word x → d *ℤ x ≡ s → ⊥
 
 abbrev pub Eliminated : Triangle → ℕ → List ℤ → List ℤ → List ℤ → Bool → Type 0
 Eliminated t n a b s true = Words n s × ((i : ℕ) → i < n → left_side t n a s i ≡ get_or b i (pos 0))

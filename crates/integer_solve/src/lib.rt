@@ -3,9 +3,11 @@
 
 ghost use Rattle.std.specs.Prelude.{◌≡◌, true, false, ◌+◌, ◌*◌, ◌≤◌, ◌<◌, pos, nat_abs, ◌-ℤ◌, ◌*ℤ◌, length, get_or, if◌then◌else◌};
 ghost use Rattle.arrays.specs.Update.{update, below};
+ghost use Rattle.arguments.specs.Refusal.{Gives};
 ghost use Rattle.integer_solve.specs.Equations as Equations;
 ghost use Rattle.integer_solve.specs.Elimination.{triangle, Words, term, room, Small, Grown, first_open, end_open, less_term, taken, QuotientOf, Eliminated};
 
+use arguments::Refusal;
 use definitions::Triangle;
 
 // What a call comes to: X is written, there is none, or the number of a refusal.
@@ -14,13 +16,6 @@ pub enum Answer {
     Solved,
     None,
     Refused(u8),
-}
-
-// The value of an unknown: a whole number of 16 bits, if it has one.
-#[derive(Clone, Copy)]
-pub enum Quotient {
-    Value(i16),
-    NoValue,
 }
 
 // ---- the tests
@@ -46,49 +41,47 @@ fn zero_diagonal(a: &[i16], n: usize) -> bool
     requires { n * n ≤ length a.now }
     ensures { result ≡ Equations.zero_diagonal n a.now }
 {
-    let mut i = 0;
-    while i < n {
+    for i in 0..n {
         if a[i * n + i] == 0 {
             return true;
         }
-        i += 1;
     }
     false
 }
 
-// The number of a refusal, or 0.
-fn refusal(uplo: i32, n: i32, a: &[i16], b: usize, x: usize) -> u8
-    ensures { result ≡ Equations.refusal uplo n a.now b x }
+// The tests in turn. b and x are the lengths of their lists.
+fn test(uplo: i32, n: i32, a: &[i16], b: usize, x: usize) -> Result<(), Refusal>
+    ensures { Gives (Equations.refusal uplo n a.now b x) result }
 {
-    if bad_order(n) | arguments::bad_uplo(uplo) {
-        return 39;
+    if bad_order(n) || arguments::bad_uplo(uplo) {
+        return Err(Refusal { number: 39 });
     }
     let order = arguments::size(n) as usize;
     if bad_length(order, a.len(), b, x) {
-        return 40;
+        return Err(Refusal { number: 40 });
     }
     if zero_diagonal(a, order) {
-        return 41;
+        return Err(Refusal { number: 41 });
     }
-    0
+    Ok(())
 }
 
 // ---- the elimination
 
-// The quotient of a remainder by a diagonal entry.
-fn divide(s: i64, d: i16) -> Quotient
+// The quotient of a remainder by a diagonal entry, if it is a whole number of 16 bits.
+fn divide(s: i64, d: i16) -> Option<i16>
     requires { (nat_abs s ≤ room) × (d ≡ pos 0 → ⊥) }
     ensures { QuotientOf s d result }
 {
     let divisor = d as i64;
     if s % divisor != 0 {
-        return Quotient::NoValue;
+        return None;
     }
     let q = s / divisor;
     if (q < -32768) | (32767 < q) {
-        return Quotient::NoValue;
+        return None;
     }
-    Quotient::Value(q as i16)
+    Some(q as i16)
 }
 
 // A remainder less one term.
@@ -104,10 +97,8 @@ fn subtract(s: &mut [i64], a: &[i16], at: usize, x: i16, lo: usize, hi: usize)
     requires { (lo ≤ hi) × (hi ≤ length s.old) × (at + hi ≤ length a.now) × Small hi s.old }
     ensures { (s.new ≡ update (below hi (less_term a.now at x lo)) s.old) × Grown s.old s.new }
 {
-    let mut i = lo;
-    while i < hi {
+    for i in lo..hi {
         s[i] = less(s[i], a[at + i], x);
-        i += 1;
     }
 }
 
@@ -141,10 +132,8 @@ fn widen(s: &mut [i64], b: &[i16])
     requires { length b.now ≤ length s.old }
     ensures { (s.new ≡ update (below (length b.now) (λ i _. get_or b.now i (pos 0))) s.old) × Words (length b.now) b.now }
 {
-    let mut i = 0;
-    while i < b.len() {
-        s[i] = b[i] as i64;
-        i += 1;
+    for (i, right) in b.iter().enumerate() {
+        s[i] = *right as i64;
     }
 }
 
@@ -154,14 +143,12 @@ fn eliminate(down: bool, n: usize, a: &[i16], b: &[i16], s: &mut [i64]) -> bool
     ensures { Eliminated (triangle down) n a.now b.now s.new result }
 {
     widen(s, b);
-    let mut q = 0;
-    while q < n {
+    for q in 0..n {
         let j = packing::factor::turn_of(down, n, q);
-        match divide(s[j], a[j * n + j]) {
-            Quotient::NoValue => return false,
-            Quotient::Value(x) => take(down, n, a, s, j, x),
-        }
-        q += 1;
+        let Some(x) = divide(s[j], a[j * n + j]) else {
+            return false;
+        };
+        take(down, n, a, s, j, x);
     }
     true
 }
@@ -172,24 +159,16 @@ fn eliminate(down: bool, n: usize, a: &[i16], b: &[i16], s: &mut [i64]) -> bool
 fn backward(t: Triangle) -> bool
     ensures { triangle result ≡ t }
 {
-    match t {
-        Triangle::Lower => false,
-        Triangle::Upper => true,
-    }
+    t == Triangle::Upper
 }
 
-// X from the remainders, if these have become its values.
-fn narrow(x: &mut [i16], s: &[i64], found: bool)
-    requires { (length x.old ≤ length s.now) × (found ≡ true → Words (length x.old) s.now) }
-    ensures { x.new ≡ (if found then update (λ i _. get_or s.now i (pos 0)) x.old else x.old) }
+// X from the remainders, which have become its values.
+fn narrow(x: &mut [i16], s: &[i64])
+    requires { (length x.old ≤ length s.now) × Words (length x.old) s.now }
+    ensures { x.new ≡ update (λ i _. get_or s.now i (pos 0)) x.old }
 {
-    if !found {
-        return;
-    }
-    let mut i = 0;
-    while i < x.len() {
-        x[i] = s[i] as i16;
-        i += 1;
+    for (i, unknown) in x.iter_mut().enumerate() {
+        *unknown = s[i] as i16;
     }
 }
 
@@ -197,18 +176,17 @@ fn narrow(x: &mut [i16], s: &[i64], found: bool)
 pub fn solve(uplo: i32, n: i32, a: &[i16], b: &[i16], x: &mut [i16]) -> Answer
     ensures { Equations.Answers uplo n a.now b.now x.old result x.new }
 {
-    let number = refusal(uplo, n, a, b.len(), x.len());
-    if number != 0 {
-        return Answer::Refused(number);
+    if let Err(refusal) = test(uplo, n, a, b.len(), x.len()) {
+        return Answer::Refused(refusal.number);
     }
     let mut s = [0i64; 64];
     let down = backward(arguments::uplo_of(uplo));
     let found = eliminate(down, b.len(), a, b, &mut s);
-    narrow(x, &s, found);
-    if found {
-        return Answer::Solved;
+    if !found {
+        return Answer::None;
     }
-    Answer::None
+    narrow(x, &s);
+    Answer::Solved
 }
 
 // The number of an answer.

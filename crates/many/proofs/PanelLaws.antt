@@ -1,22 +1,22 @@
 -- What is copied, that the panel stands for A, and that each item's arrays have room.
 -- Assumes nothing.
-use Prim.Native.Nat.{ℕ, ◌-◌, ◌*◌, ◌/◌, ◌%◌, ◌≤◌, ◌<◌}
+use mathlib.Core.Logic.{⊎_elim}
+use Prim.Native.Nat.{ℕ, min, ◌-◌, ◌*◌, ◌/◌, ◌%◌, ◌≤◌, ◌<◌}
 use mathlib.Core.Path.{◌≡◌, refl, sym, ap, subst, ◌∙◌}
 use mathlib.Core.Bool.{Bool, true, false, and-true, and-false}
 use mathlib.Core.List.{List, ◌++◌}
 use native.Mathlib.Nat.{le_refl, mul_comm}
 use native.Mathlib.Omega.{arith}
-use lib.Dec.{ltb, eqb}
+use lib.Dec.{eqb}
 use lib.ListN.{length, get_or, take, drop, length-append, length-drop, take-append-drop, drop_of_length-le}
 use lib.Seq.{length-take-le}
 use lib.Ieee.{Float, nan}
-use borrow.Author.Tests.{eq-eqb, ltb-false}
-use Rattle.arrays.specs.Choice.{least}
+use borrow.Author.Tests.{eq-eqb}
 use Rattle.arrays.specs.Update.{update, below, entries, region}
 use Rattle.arrays.specs.Fold.{fold}
 use Rattle.arrays.proofs.Tests.{by-test}
 use Rattle.arrays.proofs.FoldLaws.{fold_same, fold-keep}
-use Rattle.arrays.proofs.UpdateLaws.{update_same, below_none}
+use Rattle.arrays.proofs.UpdateLaws.{lt-or-ge, update_same, below_none}
 use Rattle.arrays.proofs.PartLaws.{tail_at, tail-length}
 use Rattle.arrays.proofs.EntryLaws.{only_same}
 use Rattle.arrays.proofs.RegionLaws.{all-columns}
@@ -49,22 +49,18 @@ copied-panel c count some apart = rw (some, apart, and-true) (by-test (untested 
 
 -- ---- a part of B that may not be there
 
-least-length : (x len : ℕ) → len - least x len ≡ len - x
-unfolding least
-least-length x len = by-test (ltb x len) (λ e. rw e) (λ e. rw e (omega (arith, ltb-false x len e)))
-
-pub least-rest : (x : ℕ) (l : List Float) → drop (least x (length l)) l ≡ drop x l
-unfolding least
-least-rest x l =
-    by-test (ltb x (length l))
-    (λ e. rw e)
-    (λ e. rw e (drop_of_length-le l (le_refl _) ∙ sym (drop_of_length-le l (ltb-false x (length l) e))))
+pub min-rest : (x : ℕ) (l : List Float) → drop (min x (length l)) l ≡ drop x l
+min-rest x l =
+    ⊎_elim
+    (λ k. let e : min x (length l) ≡ x = omega arith in rw e)
+    (λ k. let e : min x (length l) ≡ length l = omega arith in rw e (drop_of_length-le l (le_refl _) ∙ sym (drop_of_length-le l k)))
+    (lt-or-ge x (length l))
 
 -- the parts that are lent to an item's call
-pub lent_fits : (c : Call) (la fromb fromc x : ℕ) (b out : List Float) → x ≡ least fromb (length b) → FitsArrays c la (length b - fromb) (length out - fromc)
+pub lent_fits : (c : Call) (la fromb fromc x : ℕ) (b out : List Float) → x ≡ min fromb (length b) → FitsArrays c la (length b - fromb) (length out - fromc)
     → FitsArrays c la (length (take (length b - x) (drop x b))) (length (take (length out - fromc) (drop fromc out)))
 lent_fits c la fromb fromc x b out e h =
-    subst (λ (n : ℕ). FitsArrays c la n (length (take (length out - fromc) (drop fromc out)))) (sym (tail-length x b ∙ ap (λ (n : ℕ). length b - n) e ∙ least-length fromb (length b)))
+    subst (λ (n : ℕ). FitsArrays c la n (length (take (length out - fromc) (drop fromc out)))) (sym (tail-length x b ∙ omega arith))
     (subst (λ (n : ℕ). FitsArrays c la (length b - fromb) n) (sym (tail-length fromc out)) h)
 
 -- an item keeps the array's length

@@ -11,9 +11,19 @@ ghost use Rattle.definitions.specs.Element as Element;
 ghost use Rattle.definitions.specs.Check as Check;
 ghost use Rattle.definitions.specs.Many as Many;
 ghost use Rattle.many.specs.Panel.{panel_size, over_panel, EachFits, Prepared, OfLast};
+ghost use Rattle.arguments.specs.Refusal.{Gives};
 ghost use Rattle.strips.specs.Lengths.{FitsArrays};
 
+use arguments::Refusal;
 use definitions::{Args, Call, Items, ManyEnd, Routine, Scalar};
+
+// How many items there are, and the strides of their B and C.
+#[derive(Clone, Copy)]
+struct Strides {
+    count: u32,
+    b: u32,
+    c: u32,
+}
 
 // ---- the check
 
@@ -21,15 +31,8 @@ use definitions::{Args, Call, Items, ManyEnd, Routine, Scalar};
 fn from_last(len: usize, stride: i32, count: i32) -> usize
     ensures { result ≡ Many.from_last len stride count }
 {
-    let items = arguments::size(count);
-    if items == 0 {
-        return len;
-    }
-    let before = (items as usize - 1) * (arguments::size(stride) as usize);
-    if len < before {
-        return 0;
-    }
-    len - before
+    let before = (arguments::size(count) as usize).saturating_sub(1);
+    len.saturating_sub(before * (arguments::size(stride) as usize))
 }
 
 // A count that is not 0 to 1,000.
@@ -64,45 +67,36 @@ fn panel_size(c: Call) -> usize
 fn copied(c: Call, count: u32) -> usize
     ensures { result ≡ Many.copied c count }
 {
-    if count == 0 {
-        return 0;
-    }
-    if c.lda == c.m {
+    if count == 0 || c.lda == c.m {
         return 0;
     }
     panel_size(c)
 }
 
-// The number of a refusal, or 0.
-fn refusal(w: i32, r: i32, g: Args, c: Call, t: Items, pack: usize) -> u8
+// The tests in turn.
+fn test(w: i32, r: i32, g: Args, c: Call, t: Items, pack: usize) -> Result<(), Refusal>
     requires { c ≡ Check.call_of g }
-    ensures { result ≡ Many.refusal w r g t pack }
+    ensures { Gives (Many.refusal w r g t pack) result }
 {
-    if arguments::bad_width(w) | arguments::bad_width(r) {
-        return 30;
+    if arguments::bad_width(w) || arguments::bad_width(r) {
+        return Err(Refusal { number: 30 });
     }
-    let place = arguments::bad_place(g, c);
-    if place != 0 {
-        return place;
-    }
+    arguments::test_words(g, c)?;
     if bad_count(t.count) {
-        return 42;
+        return Err(Refusal { number: 42 });
     }
     if bad_stride(c, t) {
-        return 43;
+        return Err(Refusal { number: 43 });
     }
     let count = arguments::size(t.count);
     if count == 0 {
-        return 0;
+        return Ok(());
     }
-    let array = arguments::bad_array(g, c, 0);
-    if array != 0 {
-        return array;
-    }
+    arguments::test_arrays(g, c)?;
     if pack < copied(c, count) {
-        return 44;
+        return Err(Refusal { number: 44 });
     }
-    0
+    Ok(())
 }
 
 // ---- the panel
@@ -112,10 +106,8 @@ fn pack_columns(pack: &mut [f64], a: &[f64], m: usize, k: usize, lda: usize)
     requires { (0 < m) × (m ≤ lda) × (k * m ≤ length pack.old) × (needed lda m k ≤ length a.now) }
     ensures { pack.new ≡ update (region m m k (λ i l _. stored nan a.now lda i l)) pack.old }
 {
-    let mut l = 0;
-    while l < k {
+    for l in 0..k {
         packing::runs::copy(&mut pack[l * m..], m, &a[l * lda..]);
-        l += 1;
     }
 }
 
@@ -145,30 +137,7 @@ fn panel<'a>(own: bool, a: &'a [f64], pack: &'a [f64], size: usize) -> &'a [f64]
 fn over_panel(c: Call) -> Call
     ensures { result ≡ over_panel c }
 {
-    let routine = c.routine;
-    let side = c.side;
-    let uplo = c.uplo;
-    let transa = c.transa;
-    let transb = c.transb;
-    let diag = c.diag;
-    let alpha = c.alpha;
-    let beta = c.beta;
-    Call {
-        routine: routine,
-        side: side,
-        uplo: uplo,
-        transa: transa,
-        transb: transb,
-        diag: diag,
-        m: c.m,
-        n: c.n,
-        k: c.k,
-        alpha: alpha,
-        beta: beta,
-        lda: c.m,
-        ldb: c.ldb,
-        ldc: c.ldc,
-    }
+    Call { lda: c.m, ..c }
 }
 
 // ---- the items
@@ -188,32 +157,20 @@ fn item(
     requires w_nonzero { (0 < w) × (w ≤ 64) × (0 < r) × (r ≤ 64) }
     ensures { c.new ≡ take fromc c.old ++ Element.result call a.now (drop fromb b.now) (drop fromc c.old) }
 {
-    let x = arrays::smaller(fromb, b.len());
+    let x = fromb.min(b.len());
     strips::complete(call, a, &b[x..], &mut c[fromc..], w, r);
 }
 
 // All items in turn.
-fn items(
-    call: Call,
-    a: &[f64],
-    b: &[f64],
-    c: &mut [f64],
-    count: u32,
-    strideb: u32,
-    stridec: u32,
-    w: usize,
-    r: usize,
-)
-    requires each_fits { EachFits call (length a.now) (length b.now) (length c.old) strideb stridec count }
+fn items(call: Call, a: &[f64], b: &[f64], c: &mut [f64], s: Strides, w: usize, r: usize)
+    requires each_fits { EachFits call (length a.now) (length b.now) (length c.old) s.b s.c s.count }
     requires w_nonzero { (0 < w) × (w ≤ 64) × (0 < r) × (r ≤ 64) }
-    ensures { c.new ≡ fold (Many.item (Element.result call a.now) strideb stridec b.now) count c.old }
+    ensures { c.new ≡ fold (Many.item (Element.result call a.now) s.b s.c b.now) s.count c.old }
 {
-    let mut i = 0;
-    while i < count {
-        let fromb = (i as usize) * (strideb as usize);
-        let fromc = (i as usize) * (stridec as usize);
+    for i in 0..s.count {
+        let fromb = (i as usize) * (s.b as usize);
+        let fromc = (i as usize) * (s.c as usize);
         item(call, a, b, c, fromb, fromc, w, r);
-        i += 1;
     }
 }
 
@@ -225,25 +182,19 @@ fn all<'a>(
     pack: &'a [f64],
     b: &[f64],
     c: &mut [f64],
-    count: u32,
-    strideb: u32,
-    stridec: u32,
+    s: Strides,
     w: usize,
     r: usize,
 )
-    requires prepared { (0 < count) → Check.idle call ≡ false → Prepared call own a.now pack.now (length b.now) (length c.old) strideb stridec count }
+    requires prepared { (0 < s.count) → Check.idle call ≡ false → Prepared call own a.now pack.now (length b.now) (length c.old) s.b s.c s.count }
     requires w_nonzero { (0 < w) × (w ≤ 64) × (0 < r) × (r ≤ 64) }
-    ensures { c.new ≡ fold (Many.item (Element.result call a.now) strideb stridec b.now) count c.old }
+    ensures { c.new ≡ fold (Many.item (Element.result call a.now) s.b s.c b.now) s.count c.old }
 {
-    if count == 0 {
+    if s.count == 0 || arguments::is_idle(call) {
         return;
     }
-    if arguments::is_idle(call) {
-        return;
-    }
-    let size = panel_size(call);
-    let p = panel(own, a, pack, size);
-    items(over_panel(call), p, b, c, count, strideb, stridec, w, r);
+    let p = panel(own, a, pack, panel_size(call));
+    items(over_panel(call), p, b, c, s, w, r);
 }
 
 // ---- the call
@@ -267,17 +218,18 @@ fn run(
         × (pack.new ≡ Many.packed (Check.call_of g) a.now (Many.copied_by w r g t (length pack.old)) pack.old) }
 {
     let call = arguments::call_of(g);
-    let number = refusal(w, r, g, call, t, pack.len());
-    if number != 0 {
+    if let Err(refusal) = test(w, r, g, call, t, pack.len()) {
         return ManyEnd {
-            number: number as i32,
+            number: refusal.number as i32,
             copied: 0,
         };
     }
-    let count = arguments::size(t.count);
-    let strideb = arguments::size(t.strideb);
-    let stridec = arguments::size(t.stridec);
-    let n = copied(call, count);
+    let s = Strides {
+        count: arguments::size(t.count),
+        b: arguments::size(t.strideb),
+        c: arguments::size(t.stridec),
+    };
+    let n = copied(call, s.count);
     fill(pack, a, call, n);
     all(
         call,
@@ -286,9 +238,7 @@ fn run(
         pack,
         b,
         c,
-        count,
-        strideb,
-        stridec,
+        s,
         arguments::width(w),
         arguments::width(r),
     );
@@ -326,28 +276,25 @@ pub fn gemm_many(
 {
     let t = Items {
         count: items,
-        strideb: strideb,
-        stridec: stridec,
+        strideb,
+        stridec,
     };
-    // 78 is N.
     let g = Args {
         routine: Routine::Gemm,
-        side: 0,
-        uplo: 0,
-        transa: 78,
-        transb: transb,
-        diag: 0,
-        m: m,
-        n: n,
-        k: k,
-        alpha: Scalar::of(alpha),
-        beta: Scalar::of(beta),
-        lda: lda,
-        ldb: ldb,
-        ldc: ldc,
+        transa: b'N' as i32,
+        transb,
+        m,
+        n,
+        k,
+        alpha: Scalar::from(alpha),
+        beta: Scalar::from(beta),
+        lda,
+        ldb,
+        ldc,
         lena: a.len(),
         lenb: from_last(b.len(), strideb, items),
         lenc: from_last(c.len(), stridec, items),
+        ..Args::NONE
     };
     run(w, r, g, t, a, b, c, pack)
 }

@@ -1,27 +1,9 @@
--- `has_m` by the routine.
+-- SYRK and SYR2K have no m.
+use Rattle.std.proofs.Common.{arith}
 use Rattle.definitions.specs.Call.{has_m}
 use Rattle.arguments.proofs.has_m.Goals as goal
+use Rattle.arguments.proofs.has_m.Goals.{in-Syrk, in_default}
 
-pub returns-in-Gemm : goal.returns-in-Gemm
+pub returns : goal.returns
 unfolding has_m
-returns-in-Gemm c = simp c.in-Gemm.is
-
-pub returns-in-Symm : goal.returns-in-Symm
-unfolding has_m
-returns-in-Symm c = simp c.in-Symm.is
-
-pub returns-in-Syrk : goal.returns-in-Syrk
-unfolding has_m
-returns-in-Syrk c = simp c.in-Syrk.is
-
-pub returns-in-Syr2k : goal.returns-in-Syr2k
-unfolding has_m
-returns-in-Syr2k c = simp c.in-Syr2k.is
-
-pub returns-in-Trmm : goal.returns-in-Trmm
-unfolding has_m
-returns-in-Trmm c = simp c.in-Trmm.is
-
-pub returns-in-Trsm : goal.returns-in-Trsm
-unfolding has_m
-returns-in-Trsm c = simp c.in-Trsm.is
+returns c = elim c.match-matches.branch [ in-Syrk w ↦ let h = w.in-Syrk in grind arith | in_default w ↦ let h = w.in_default in grind arith ]

@@ -4,4 +4,4 @@ use Rattle.arguments.proofs.is_idle.Goals as goal
 
 pub returns : goal.returns
 unfolding idle
-returns c = simp (c.is_empty-empty.ensures, c.start_only-start.ensures, c.in_place-inplace.ensures, c.is_one-one.ensures)
+returns c = simp (c.is_empty.ensures, c.start_only.ensures, c.in_place.ensures, c.is_one.ensures)

@@ -1,4 +1,5 @@
--- Each row of the table holds the places that the definitions give to the arguments: a computed test for each routine.
+-- Each row holds the places that the definitions give to the arguments: a computed test for each routine.
+use Rattle.std.proofs.Common.{arith}
 use Rattle.definitions.specs.Check.{places, arrays}
 use Rattle.definitions.proofs.CheckLaws.{column, place_in}
 use Rattle.arguments.specs.Tests.{codes, sizes, leading, lengths, words, columns, row_of}
@@ -22,8 +23,4 @@ returns-in-Syr2k c = simp c.in-Syr2k.is
 
 pub returns-in-Trmm : goal.returns-in-Trmm
 unfolding row_of columns words codes sizes leading lengths column place_in places arrays
-returns-in-Trmm c = simp c.in-Trmm.is
-
-pub returns-in-Trsm : goal.returns-in-Trsm
-unfolding row_of columns words codes sizes leading lengths column place_in places arrays
-returns-in-Trsm c = simp c.in-Trsm.is
+returns-in-Trmm c = grind (arith, c.in-Trmm.is)

@@ -1,14 +1,11 @@
 -- The shape of B, by the routine.
+use Rattle.std.proofs.Common.{arith}
 use Rattle.definitions.specs.Call.{shape_b}
 use Rattle.arguments.proofs.shape_b.Goals as goal
 
 pub returns-in-Gemm : goal.returns-in-Gemm
 unfolding shape_b
 returns-in-Gemm c = simp (c.stored_as.ensures, c.in-Gemm.is)
-
-pub returns-in-Symm : goal.returns-in-Symm
-unfolding shape_b
-returns-in-Symm c = simp c.in-Symm.is
 
 pub returns-in-Syrk : goal.returns-in-Syrk
 unfolding shape_b
@@ -18,10 +15,6 @@ pub returns-in-Syr2k : goal.returns-in-Syr2k
 unfolding shape_b
 returns-in-Syr2k c = simp (c.stored_as-in-Syr2k.ensures, c.in-Syr2k.is)
 
-pub returns-in-Trmm : goal.returns-in-Trmm
+pub returns-in-Symm : goal.returns-in-Symm
 unfolding shape_b
-returns-in-Trmm c = simp c.in-Trmm.is
-
-pub returns-in-Trsm : goal.returns-in-Trsm
-unfolding shape_b
-returns-in-Trsm c = simp c.in-Trsm.is
+returns-in-Symm c = grind (arith, c.in-Symm.is)

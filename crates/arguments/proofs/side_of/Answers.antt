@@ -1,18 +1,13 @@
 -- The side, by the letter of the code.
-use mathlib.Core.Path.{◌≡◌, sym, ap, ◌∙◌}
-use mir.Syntax.{w32}
-use mir.ValLaws.{to_z-of_z}
-use Rattle.definitions.specs.Check.{'L', is, side_of}
+use Rattle.std.proofs.Common.{arith}
+use Rattle.definitions.specs.Check.{side_of}
+use Rattle.arguments.proofs.Signed.{word_same}
 use Rattle.arguments.proofs.side_of.Goals as goal
-use Rattle.arguments.proofs.side_of.Goals.{After-is}
-
-letter : (c : After-is) → c.is.result ≡ is 'L' c.args.code
-letter c = c.is.ensures ∙ ap (is 'L') (to_z-of_z w32 c.args.code c.ranges.code)
 
 pub returns-then-is : goal.returns-then-is
 unfolding side_of
-returns-then-is c = simp (sym (letter (goal.at.returns-then-is c).After-is) ∙ c.if-is.true)
+returns-then-is c = grind (arith, word_same)
 
 pub returns-else-is : goal.returns-else-is
 unfolding side_of
-returns-else-is c = simp (sym (letter (goal.at.returns-else-is c).After-is) ∙ c.if-is.false)
+returns-else-is c = grind (arith, word_same)

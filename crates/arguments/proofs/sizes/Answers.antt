@@ -1,20 +1,21 @@
 -- The tests of the sizes, in turn.
-use Rattle.definitions.specs.Check.{negative, bad_with, bad}
+use Rattle.definitions.specs.Check.{bad_with, bad}
 use Rattle.definitions.proofs.CheckLaws.{column}
+use Rattle.arguments.specs.Refusal.{first_of}
 use Rattle.arguments.specs.Tests.{sizes, tests}
-use Rattle.arguments.proofs.Signed.{same}
 use native.Mathlib.Omega.{arith}
+use Rattle.arguments.proofs.Signed.{word_same}
+use Rattle.arguments.proofs.Turns.{handed}
 use Rattle.arguments.proofs.sizes.Goals as goal
 
+pub returns-in_err-test : goal.returns-in_err-test
+unfolding tests sizes column bad bad_with first_of
+returns-in_err-test c = handed _ c.from_residual.ensures.1 (grind (arith, word_same, c.in_err-test.ensures))
+
+pub returns-in_err-test-2 : goal.returns-in_err-test-2
+unfolding tests sizes column bad bad_with first_of
+returns-in_err-test-2 c = handed _ c.from_residual-in_err-test-2.ensures.1 (grind (arith, word_same, c.in_ok-test.ensures, c.in_err-test-2.ensures))
+
 pub returns : goal.returns
-unfolding tests sizes column bad bad_with
-returns c =
-    let g = c.args.g in
-    simp (
-      c.first.ensures,
-      c.first-e2.ensures,
-      c.first-e1.ensures,
-      same negative g.m (omega arith) c.negative.ensures,
-      same negative g.n (omega arith) c.negative-2.ensures,
-      same negative g.k (omega arith) c.negative-3.ensures,
-    )
+unfolding tests sizes column bad bad_with first_of
+returns c = grind (arith, word_same, c.in_ok-test.ensures, c.in_ok-test-2.ensures)

@@ -4,4 +4,4 @@ use Rattle.arguments.proofs.start_only.Goals as goal
 
 pub returns : goal.returns
 unfolding start_only
-returns c = simp (c.is_zero-zero.ensures, c.has_k-has.ensures)
+returns c = simp (c.is_zero.ensures, c.has_k.ensures)

@@ -1,12 +1,16 @@
--- `backward` by the triangle.
-use mathlib.Core.Path.{sym}
+-- `backward` tests the triangle.
+use mathlib.Core.Path.{◌≡◌, refl, ap, ◌∙◌}
+use denote.Enum.Bare.{sameb}
+use Rattle.definitions.specs.contracts.Triangle.{the_type}
+use Rattle.definitions.specs.declared.Triangle.{Triangle}
+use Rattle.definitions.specs.declared.Triangle.TheVariants.{Lower, Upper}
 use Rattle.integer_solve.specs.Elimination.{triangle}
 use Rattle.integer_solve.proofs.backward.Goals as goal
 
-pub returns-in-Lower : goal.returns-in-Lower
+is-upper : (t : Triangle) → triangle (sameb the_type t Upper) ≡ t
 unfolding triangle
-returns-in-Lower c = sym c.in-Lower.is
+is-upper Lower = refl
+is-upper Upper = refl
 
-pub returns-in-Upper : goal.returns-in-Upper
-unfolding triangle
-returns-in-Upper c = sym c.in-Upper.is
+pub returns : goal.returns
+returns c = ap triangle c.eq.ensures ∙ is-upper c.args.t

@@ -1,5 +1,5 @@
 -- `eliminate` keeps the progress of the elimination.
-use mathlib.Core.Path.{◌≡◌, refl, sym, ap, subst, ◌∙◌}
+use mathlib.Core.Path.{◌≡◌, sym, ap, subst, ◌∙◌}
 use mathlib.Core.List.{List}
 use Prim.Native.Nat.{ℕ, ◌+◌, ◌*◌, ◌≤◌, ◌<◌}
 use native.Mathlib.Omega.{arith}
@@ -13,8 +13,7 @@ use mir.ValLaws.{to_z-of_z}
 use Rattle.arrays.specs.Update.{update, below}
 use Rattle.arrays.proofs.UpdateLaws.{at-update, below_in}
 use Rattle.integer_solve.specs.Elimination.{QuotientOf}
-use Rattle.integer_solve.specs.declared.Quotient.{Quotient}
-use Rattle.integer_solve.specs.declared.Quotient.TheVariants.{Value, NoValue}
+use Rattle.std.specs.Prelude.{Option, Some, None}
 use Rattle.integer_solve.proofs.Words.{word_fits, same_word}
 use Rattle.integer_solve.proofs.Progress.{Progress, progress_start, progress-next, progress-none, progress-end, diagonal-some}
 use Rattle.integer_solve.proofs.eliminate.Goals as goal
@@ -40,7 +39,7 @@ some c =
 
 quotient : (c : After-divide) → let divisor : ℤ = let g = c.args in get_or g.a.now (c.turn_of-j.result * g.n + c.turn_of-j.result) (pos 0) in
     let remainder : ℤ = get_or c.loop-q.s c.turn_of-j.result (pos 0) in
-    (r : Quotient) → c.divide.result ≡ r → QuotientOf (remainder) (divisor) r
+    (r : Option ℤ) → c.divide.result ≡ r → QuotientOf (remainder) (divisor) r
 quotient c r e =
     let divisor : ℤ = let g = c.args in get_or g.a.now (c.turn_of-j.result * g.n + c.turn_of-j.result) (pos 0) in
     let remainder : ℤ = get_or c.loop-q.s c.turn_of-j.result (pos 0) in
@@ -53,8 +52,6 @@ loop-q-init c =
     let m = c.widen.new.s in
     let b = c.args.b.now in
     let e = subst (λ (n : ℕ). m ≡ update (below n (λ i _. get_or b i (pos 0))) c.args.s.now) c.requires.1 c.widen.ensures.0 in (
-      omega arith,
-      refl,
       progress_start c.args.down c.args.n c.args.a.now b m c.args.s.now (omega arith) e,
       λ i h.
           let at : get_or m i (pos 0) ≡ get_or b i (pos 0) = ap (λ (l : List ℤ). get_or l i (pos 0)) e ∙ at-update _ c.args.s.now i (pos 0) (omega arith) ∙ below_in _ _ i _ h in
@@ -63,28 +60,26 @@ loop-q-init c =
 
 pub divide-requires : goal.divide-requires
 divide-requires c = (
-  rw (to_z-of_z w64 (remainder (goal.at.divide-requires c).After-turn_of-j) (record { sfits = c.divide-arg-1.given })) (omega (arith, c.loop-q.invariant.3 c.turn_of-j.result c.turn_of-j.ensures.1)),
+  rw (to_z-of_z w64 (remainder (goal.at.divide-requires c).After-turn_of-j) (record { sfits = c.divide-arg-1.given })) (omega (arith, c.loop-q.invariant.1 c.turn_of-j.result c.turn_of-j.ensures.1)),
   λ e. some (goal.at.divide-requires c).After-turn_of-j (sym (same_word (divisor (goal.at.divide-requires c).After-turn_of-j) c.divide-arg-in-loop-q-1.given) ∙ e),
 )
 
-pub returns-in-NoValue : goal.returns-in-NoValue
-returns-in-NoValue c x v =
-    progress-none c.loop-q.invariant.2 c.loop-q-test.true c.turn_of-j.ensures.0 (quotient (goal.at.returns-in-NoValue c).After-divide NoValue c.in-NoValue.is) x v
+pub returns-in_default : goal.returns-in_default
+returns-in_default c x v =
+    progress-none c.loop-q.invariant.0 c.loop-q-test.true c.turn_of-j.ensures.0 (quotient (goal.at.returns-in_default c).After-divide None c.in_default.is) x v
 
 pub take-requires : goal.take-requires
 take-requires c =
     let l = c.loop-q in
-    (c.turn_of-j.ensures.1, omega arith, omega arith, omega arith, λ i h. omega (arith, l.invariant.3 i h))
+    (c.turn_of-j.ensures.1, omega arith, omega arith, omega arith, λ i h. omega (arith, l.invariant.1 i h))
 
 pub loop-q-preserved : goal.loop-q-preserved
 loop-q-preserved c =
     let l = c.loop-q in
-    let x = c.in-Value.x in
-    let q = quotient (goal.at.loop-q-preserved c).After-divide (Value x) c.in-Value.is in (
-      omega arith,
-      omega arith,
-      progress-next l.invariant.2 c.loop-q-test.true c.turn_of-j.ensures.0 (omega arith) (some (goal.at.loop-q-preserved c).After-turn_of-j) q.0 q.1 (rw (same_word x (word_fits q.0)) at c.take.ensures.0),
-      λ i h. omega (arith, l.invariant.3 i h, c.take.ensures.1 i),
+    let x = c.in-Some.x in
+    let q = quotient (goal.at.loop-q-preserved c).After-divide (Some x) c.in-Some.is in (
+      progress-next l.invariant.0 c.loop-q-test.true c.turn_of-j.ensures.0 (omega arith) (some (goal.at.loop-q-preserved c).After-turn_of-j) q.0 q.1 (rw (same_word x (word_fits q.0)) at c.take.ensures.0),
+      λ i h. omega (arith, l.invariant.1 i h, c.take.ensures.1 i),
     )
 
 pub returns : goal.returns
@@ -92,7 +87,7 @@ returns c =
     let l = c.loop-q in
     let g = c.args in
     let e : l.q ≡ g.n = omega arith in
-    progress-end (subst (λ (q : ℕ). Progress g.down g.n g.a.now g.b.now q l.s) e l.invariant.2)
+    progress-end (subst (λ (q : ℕ). Progress g.down g.n g.a.now g.b.now q l.s) e l.invariant.0)
 
 pub overflow_mul-j : goal.overflow_mul-j
 overflow_mul-j c = omega (arith, within (goal.at.overflow_mul-j c).After-turn_of-j)

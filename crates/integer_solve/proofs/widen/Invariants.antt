@@ -1,14 +1,10 @@
 -- `widen` copies from the front.
 use mathlib.Core.Path.{◌≡◌}
-use Prim.Native.Nat.{◌-◌, ◌≤◌}
 use lib.IntN.{pos}
-use lib.ListN.{length, get_or}
+use lib.ListN.{get_or}
 use Rattle.arrays.specs.Update.{update, below}
 use Rattle.integer_solve.specs.Elimination.{Words}
 use Rattle.integer_solve.proofs.widen.Given as goal
 
 abbrev pub invariant-loop-i : goal.invariant-loop-i
-invariant-loop-i l = (l.i ≤ length l.b) × (length l.s ≡ length l.initial.s) × (l.s ≡ update (below l.i (λ p _. get_or l.b p (pos 0))) l.initial.s) × Words l.i l.b
-
-abbrev pub decreases-loop-i : goal.decreases-loop-i
-decreases-loop-i l = length l.b - l.i
+invariant-loop-i l = (l.s ≡ update (below l.i (λ p _. get_or l.b p (pos 0))) l.initial.s) × Words l.i l.b

@@ -41,7 +41,7 @@ returns-then-a-i-eq0 c =
     let l = c.loop-i in
     let a = c.args in
     let z = get_or a.a.now (l.i * a.n + l.i) (pos 0) in
-    found a.a.now a.n l.i (omega arith) l.invariant.1 (eq-eqb (nat_abs z) 0 (ap nat_abs (zero_bits w16 z (fits_16 c.t9-1.given) c.if-a-i-eq0.true)))
+    found a.a.now a.n l.i (omega arith) l.invariant (eq-eqb (nat_abs z) 0 (ap nat_abs (zero_bits w16 z (fits_16 c.t9-1.given) c.if-a-i-eq0.true)))
 
 pub loop-i-preserved : goal.loop-i-preserved
 unfolding stored
@@ -50,10 +50,10 @@ loop-i-preserved c =
     let a = c.args in
     let z = get_or a.a.now (l.i * a.n + l.i) (pos 0) in
     let here = ne_eqb (nat_abs z) 0 (λ h. c.if-a-i-eq0.false (ap (λ (x : ℤ). of_z w16 x) (abs-zero z h))) in
-    (omega arith, one_more (λ p. test a.a.now a.n p ≡ false) l.i l.invariant.1 here)
+    one_more (λ p. test a.a.now a.n p ≡ false) l.i l.invariant here
 
 pub returns : goal.returns
 returns c =
     let l = c.loop-i in
     let a = c.args in
-    not_found a.a.now a.n (λ p h. l.invariant.1 p (omega arith))
+    not_found a.a.now a.n (λ p h. l.invariant p (omega arith))

@@ -34,8 +34,8 @@ returns c =
       to_z-of_z w32 g.items f.items,
       to_z-of_z w32 g.w f.w,
       to_z-of_z w32 g.r f.r,
-      c.of.ensures,
-      c.of-2.ensures,
+      c.from.ensures,
+      c.from-2.ensures,
       c.from_last.ensures,
       c.from_last-2.ensures,
     ) at c.run.ensures)

@@ -1,10 +1,8 @@
 -- `pack_columns` copies one column after the other.
 use Prim.Native.Nat.{◌-◌, ◌*◌, ◌+◌, ◌≤◌, ◌<◌}
-use mathlib.Core.Path.{refl, ap, ◌∙◌}
 use native.Mathlib.Omega.{arith}
 use lib.ListN.{length}
 use lib.Ieee.{nan}
-use Rattle.arrays.proofs.UpdateLaws.{length-update}
 use Rattle.arrays.proofs.PartLaws.{column-room, tail-length}
 use Rattle.arrays.proofs.RegionLaws.{region-no-columns, region-column}
 use Rattle.definitions.specs.Storage.{stored}
@@ -22,12 +20,12 @@ turn : (c : In-loop-l) → Turn c
 turn c =
     let l : c.loop-l.l < c.args.k = omega arith in
     record {
-      in-pack = omega (arith, c.requires, column-room c.args.m l, c.loop-l.invariant.1);
+      in-pack = omega (arith, c.requires, column-room c.args.m l);
       in-a = omega (arith, c.requires, entry-inside c.args.lda c.args.m c.args.k (length c.args.a.now) c.requires.3 (c.args.m - 1) c.loop-l.l (omega (arith, c.requires.0)) l);
     }
 
 pub loop-l-init : goal.loop-l-init
-loop-l-init c = (omega arith, refl, region-no-columns _ _ _ _)
+loop-l-init c = region-no-columns _ _ _ _
 
 pub copy-requires : goal.copy-requires
 copy-requires c =
@@ -38,8 +36,8 @@ pub loop-l-preserved : goal.loop-l-preserved
 loop-l-preserved c =
     let t = turn (goal.at.loop-l-preserved c).In-loop-l in
     let l = c.loop-l.l in
-    let e = region-column nan c.args.m c.requires.0 c.args.m l (λ i j _. stored nan c.args.a.now c.args.lda i j) _ _ _ (omega arith) (omega (arith, t.in-pack, c.loop-l.invariant.1)) c.loop-l.invariant.2 (column-copied c.args.a.now c.args.m c.args.lda l _ _ c.copy.ensures) in
-    (omega arith, ap length e ∙ length-update _ _, e)
+    let e = region-column nan c.args.m c.requires.0 c.args.m l (λ i j _. stored nan c.args.a.now c.args.lda i j) _ _ _ (omega arith) (omega (arith, t.in-pack)) c.loop-l.invariant (column-copied c.args.a.now c.args.m c.args.lda l _ _ c.copy.ensures) in
+    e
 
 pub overflow_mul-l-in-loop-l : goal.overflow_mul-l-in-loop-l
 overflow_mul-l-in-loop-l c = omega (arith, (turn (goal.at.overflow_mul-l-in-loop-l c).In-loop-l).in-a)

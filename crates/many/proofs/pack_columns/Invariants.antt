@@ -1,14 +1,9 @@
 -- `pack_columns` copies one column after the other.
-use Prim.Native.Nat.{◌-◌, ◌≤◌}
 use mathlib.Core.Path.{◌≡◌}
-use lib.ListN.{length}
 use lib.Ieee.{nan}
 use Rattle.arrays.specs.Update.{update, region}
 use Rattle.definitions.specs.Storage.{stored}
 use Rattle.many.proofs.pack_columns.Given as goal
 
 abbrev pub invariant-loop-l : goal.invariant-loop-l
-invariant-loop-l l = (l.l ≤ l.k) × (length l.pack ≡ length l.initial.pack) × (l.pack ≡ update (region l.m l.m l.l (λ i j _. stored nan l.a l.lda i j)) l.initial.pack)
-
-abbrev pub decreases-loop-l : goal.decreases-loop-l
-decreases-loop-l l = l.k - l.l
+invariant-loop-l l = l.pack ≡ update (region l.m l.m l.l (λ i j _. stored nan l.a l.lda i j)) l.initial.pack

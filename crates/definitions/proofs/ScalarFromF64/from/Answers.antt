@@ -1,11 +1,11 @@
--- `Scalar::of` gives the case of a scalar: each return rewrites with the comparisons that led there.
+-- `Scalar::from` gives the case of a scalar: each return rewrites with the comparisons that led there.
 use mathlib.Core.Path.{◌≡◌}
 use mathlib.Core.Bool.{true, false}
 use lib.Ieee.{eq, of_bits}
 use Rattle.floats.specs.Operations.{0f, 1f}
 use Rattle.definitions.specs.Number.{scalar}
-use Rattle.definitions.proofs.Scalar.of.Goals as goal
-use Rattle.definitions.proofs.Scalar.of.Goals.{Else-x}
+use Rattle.definitions.proofs.ScalarFromF64.from.Goals as goal
+use Rattle.definitions.proofs.ScalarFromF64.from.Goals.{Else-x}
 
 not-zero : (c : Else-x) → eq c.args.x 0f ≡ false
 unfolding of_bits
