@@ -1,12 +1,11 @@
 -- What the tests of a record come to: refused with a number, accepted with nothing to do, or accepted with work.
-use Rattle.std.specs.Prelude.{ℕ, ◌+◌, ◌*◌, ◌≤◌, ◌≡◌, Bool, ◌&&◌, ◌||◌, List, ltb, eqb, ℤ, pos, length, get_or, Float, if◌then◌else◌}
+use Rattle.std.specs.Prelude.{ℕ, ◌+◌, ◌*◌, ◌≤◌, ◌≡◌, Bool, ◌||◌, List, ltb, eqb, ℤ, pos, length, get_or, Float, if◌then◌else◌}
 use Rattle.std.proofs.Math.Option.{Option, none, some}
 use Rattle.definitions.specs.Call.{extent}
 use Rattle.definitions.specs.Check.{nat, negative, call_of, checked}
 use Rattle.definitions.specs.Machine.{Act, refuse}
 use Rattle.definitions.specs.Sheet.{Sheet, Arrays, A, B, index, field, bad_arrays, bad_offsets, args_of, accepted}
 use Rattle.definitions.specs.declared.Routine.{Routine}
-use Rattle.definitions.specs.declared.Routine.TheVariants.{Gemm, Symm, Syrk, Syr2k, Trmm, Trsm}
 use Rattle.definitions.specs.declared.Call.{Call}
 use Rattle.definitions.specs.declared.Checked.{Checked}
 use Rattle.definitions.specs.declared.Checked.TheVariants.{Refused, Idle, Ready}
@@ -29,14 +28,7 @@ At t p at = (at ≡ nat (index t) + 20 * p) × (at + 20 ≤ length t.words)
 unfoldable pub sizes : ℕ → ℕ → ℕ → ℕ → ℕ
 sizes lx ly lz n = if eqb n 0 then lx else if eqb n 1 then ly else lz
 
--- ---- the routine
-
-unfoldable pub known : ℤ → Bool
-known code = ltb 0 (nat code) && ltb (nat code) 7
-
-unfoldable pub routine_at : ℕ → Routine
-routine_at n =
-    if eqb n 1 then Gemm else if eqb n 2 then Symm else if eqb n 3 then Syrk else if eqb n 4 then Syr2k else if eqb n 5 then Trmm else Trsm
+-- ---- the matrices
 
 -- The matrix that is lent as B: A again in a routine that reads no other matrix.
 unfoldable pub second : Routine → ℕ

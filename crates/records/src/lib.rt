@@ -1,7 +1,8 @@
 // A call sheet: the words of its records, their tests, 31, 32, 33 and those of a direct call, and the tests of a run, 34, 35 and 36.
 #![tactic(auto)]
 
-ghost use Rattle.std.specs.Prelude.{◌≡◌, not, ◌||◌, List, ℕ, ◌+◌, ◌*◌, ◌-◌, ◌^◌, ◌≤◌, ◌<◌, ltb, pos, Float, length, get_or};
+ghost use Rattle.std.specs.Prelude.{◌≡◌, not, ◌||◌, List, ℕ, ◌+◌, ◌*◌, ◌-◌, ◌^◌, ◌≤◌, ◌<◌, ltb, pos, Float, length, get_or, MatchOption};
+ghost use Rattle.std.proofs.Math.Option.{none, some};
 ghost use Rattle.definitions.specs.Check as Check;
 ghost use Rattle.definitions.specs.Machine as Machine;
 ghost use Rattle.definitions.specs.Run as Run;
@@ -36,32 +37,19 @@ pub fn word(sheet: &[i32], at: usize, q: usize) -> i32
 
 // ---- the routine
 
-fn known(code: i32) -> bool
-    ensures { result ≡ Judgement.known code }
+// The routine with that number.
+fn routine_of(code: i32) -> Option<Routine>
+    ensures { MatchOption result (Sheet.routine_of code ≡ none) (λ f. Sheet.routine_of code ≡ some f) }
 {
-    let n = arguments::size(code);
-    (0 < n) & (n < 7)
-}
-
-fn routine(n: u32) -> Routine
-    ensures { result ≡ Judgement.routine_at n }
-{
-    if n == 1 {
-        return Routine::Gemm;
+    match arguments::size(code) {
+        1 => Some(Routine::Gemm),
+        2 => Some(Routine::Symm),
+        3 => Some(Routine::Syrk),
+        4 => Some(Routine::Syr2k),
+        5 => Some(Routine::Trmm),
+        6 => Some(Routine::Trsm),
+        _ => None,
     }
-    if n == 2 {
-        return Routine::Symm;
-    }
-    if n == 3 {
-        return Routine::Syrk;
-    }
-    if n == 4 {
-        return Routine::Syr2k;
-    }
-    if n == 5 {
-        return Routine::Trmm;
-    }
-    Routine::Trsm
 }
 
 // The word of the array number of the matrix that the routine writes: C, or B for TRMM and TRSM.
@@ -69,12 +57,8 @@ pub fn output(routine: Routine) -> usize
     ensures { (result ≡ Sheet.output routine) × (result ≤ 15) }
 {
     match routine {
-        Routine::Gemm => 15,
-        Routine::Symm => 15,
-        Routine::Syrk => 15,
-        Routine::Syr2k => 15,
-        Routine::Trmm => 12,
-        Routine::Trsm => 12,
+        Routine::Gemm | Routine::Symm | Routine::Syrk | Routine::Syr2k => 15,
+        Routine::Trmm | Routine::Trsm => 12,
     }
 }
 
@@ -83,12 +67,8 @@ pub fn second(routine: Routine) -> usize
     ensures { (result ≡ Judgement.second routine) × (result ≤ 15) }
 {
     match routine {
-        Routine::Gemm => 12,
-        Routine::Symm => 12,
-        Routine::Syrk => 9,
-        Routine::Syr2k => 12,
-        Routine::Trmm => 9,
-        Routine::Trsm => 9,
+        Routine::Gemm | Routine::Symm | Routine::Syr2k => 12,
+        Routine::Trmm | Routine::Trsm | Routine::Syrk => 9,
     }
 }
 
@@ -244,10 +224,9 @@ pub fn judge(
         (Sheet.routine_of (Sheet.field (Judgement.sheet_of sheet.now scalars.now) p 0))) × (Judgement.extent_of result < 2 ^ 31) }
 {
     let code = word(sheet, at, 0);
-    if !known(code) {
+    let Some(f) = routine_of(code) else {
         return Judged::Rejected(31);
-    }
-    let f = routine(arguments::size(code));
+    };
     if bad_arrays(sheet, at, f) {
         return Judged::Rejected(32);
     }
