@@ -1,14 +1,14 @@
 -- The tests of a record, as the code goes through them, are those of the definitions; and what an accepted record satisfies.
 -- Assumes nothing.
-use Prim.Native.Nat.{ℕ, zero, suc, ◌+◌, ◌-◌, ◌*◌, ◌^◌, ◌≤◌, ◌<◌}
+use Prim.Native.Nat.{ℕ, zero, suc, ◌+◌, ◌*◌, ◌^◌, ◌≤◌, ◌<◌}
 use mathlib.Core.Path.{◌≡◌, refl, sym, ap, subst, ◌∙◌}
 use mathlib.Core.Bool.{Bool, true, false, ◌||◌}
-use mathlib.Core.List.{List, [], ◌∷◌}
+use mathlib.Core.List.{[], ◌∷◌}
 use mathlib.Core.Option.{Option, none, some}
 use native.Mathlib.Omega.{arith}
 use lib.Dec.{eqb, eqb-suc-zero}
 use lib.IntN.{ℤ, pos, negsuc}
-use lib.ListN.{get_or, get_elem?, length}
+use lib.ListN.{get_or, get_elem?}
 use lib.Signed.{mag}
 use mir.Syntax.{w32}
 use mir.Val.{to_z, of_z}
@@ -19,7 +19,7 @@ use Rattle.arrays.proofs.Tests.{if-true, if-false, by-test}
 use Rattle.definitions.specs.Call.{has_m, in_place, cuts_rows, extent}
 use Rattle.definitions.specs.Check.{nat, side_of, refusal, idle, call_of, checked}
 use Rattle.definitions.specs.Machine.{refuse}
-use Rattle.definitions.specs.Sheet.{Sheet, Arrays, A, B, C, index, word, field, routine_of, output, inputs, any, array, lengths, part_length, bad_arrays, bad_offsets, args_of, record_refusal, accepted, act_by}
+use Rattle.definitions.specs.Sheet.{Sheet, Arrays, A, B, C, index, word, field, routine_of, output, inputs, any, array, lengths, bad_arrays, bad_offsets, args_of, record_refusal, accepted, act_by}
 use Rattle.definitions.specs.declared.Routine.{Routine}
 use Rattle.definitions.specs.declared.Routine.TheVariants.{Gemm, Symm, Syrk, Syr2k, Trmm, Trsm}
 use Rattle.definitions.specs.declared.Args.{Args}
@@ -28,21 +28,31 @@ use Rattle.definitions.specs.declared.Checked.{Checked}
 use Rattle.definitions.specs.declared.Checked.TheVariants.{Refused, Idle, Ready}
 use Rattle.definitions.proofs.CheckLaws.{when-ready, when-idle, when-refused}
 use Rattle.definitions.proofs.Records.{Accepted, record_call, record-routine}
-use Rattle.records.specs.Judgement.{sizes, second, bad_number, bad_numbers, bad_offset, settled, judged, act_of, extent_of}
+use Rattle.records.specs.Judgement.{lengths_of, sizes, second, bad_number, bad_numbers, bad_offset, settled, judged, act_of, extent_of}
 use Rattle.records.specs.declared.Judged.{Judged}
 use Rattle.records.specs.declared.Judged.TheVariants.{Rejected, NoWork, Work}
 
 -- ---- words and lengths
 
-pub field_is : (t : Sheet) (words : List ℤ) (p at : ℕ) → t.words ≡ words → at ≡ nat (index t) + 20 * p → (q : ℕ) → get_or words (at + q) (pos 0) ≡ field t p q
+pub field_is : (t : Sheet) (p at : ℕ) → at ≡ nat (index t) + 20 * p → (q : ℕ) → get_or t.words (at + q) (pos 0) ≡ field t p q
 unfolding field word
-field_is t words p at w e q = λ i. get_or (sym w i) (e i + q) (pos 0)
+field_is t p at e q = λ i. get_or t.words (e i + q) (pos 0)
 
-pub sizes-are : (l : Arrays) (n : ℕ) → lengths l n ≡ sizes (length l.x) (length l.y) (length l.z) n
+-- a word that goes through its bits
+pub word-is : (z y : ℤ) → mag z < 2 ^ 31 → z ≡ y → to_z w32 (of_z w32 z) ≡ y
+word-is z y fits e = to_z-of_z w32 z (record { sfits = fits }) ∙ e
+
+pub sizes-are : (l : Arrays) (n : ℕ) → lengths l n ≡ sizes (lengths_of l) n
 unfolding lengths sizes array
 sizes-are l zero = refl
 sizes-are l (suc zero) = refl
 sizes-are l (suc (suc n)) = simp (eqb-suc-zero (suc n), ne_eqb (suc (suc n)) 1 (λ e. omega arith))
+
+pub array-Z : (l : Arrays) (n : ℕ) → 1 < n → l.z ≡ array l n
+unfolding array
+array-Z l zero h = absurd (let f : ⊥ = omega arith in f)
+array-Z l (suc zero) h = absurd (let f : ⊥ = omega arith in f)
+array-Z l (suc (suc n)) h = refl
 
 -- ---- the routine
 
@@ -130,16 +140,6 @@ word_small z h = subst (λ (y : ℤ). nat y < 2 ^ 31) (sym (to_z-of_z w32 z (rec
     small : (z : ℤ) → mag z < 2 ^ 31 → nat z < 2 ^ 31
     small (pos n) h = h
     small (negsuc n) h = omega arith
-
--- ---- as the code reads them: `at` is the record's first word, and a word goes through its bits
-
-module _ (t : Sheet) (words : List ℤ) (p at : ℕ) (w : t.words ≡ words) (e : at ≡ nat (index t) + 20 * p) where
-  pub word-is : (q q' : ℕ) (z : ℤ) → q ≡ q' → mag z < 2 ^ 31 → z ≡ get_or words (at + q) (pos 0) → to_z w32 (of_z w32 z) ≡ field t p q'
-  word-is q q' z eq fits ez = to_z-of_z w32 z (record { sfits = fits }) ∙ ez ∙ field_is t words p at w e q ∙ ap (field t p) eq
-
-  pub length-is : (size : ℕ → ℕ) (q n : ℕ) → n ≡ size (nat (get_or words (at + q) (pos 0))) - nat (get_or words (at + (q + 1)) (pos 0)) → n ≡ part_length t p q size
-  unfolding part_length
-  length-is size q n h = h ∙ (λ i. size (nat (field_is t words p at w e q i)) - nat (field_is t words p at w e (q + 1) i))
 
 -- ---- all tests
 

@@ -94,6 +94,6 @@ module _ (t : Sheet) (l : Arrays) (answers : List ℤ) (p s : ℤ) where
     unfolding run_refusal
     refused-36 k b = sym (if-false (not (sound t)) 34 _ h ∙ if-false (too_short t answers) 35 _ k ∙ if-true (bad_cursor t l p s) 36 _ b)
 
-    pub not-refused : too_short t answers ≡ false → bad_cursor t l p s ≡ false → 0 ≡ run_refusal t l answers p s
+    pub not-refused : too_short t answers ≡ false → bad_cursor t l p s ≡ false → run_refusal t l answers p s ≡ 0
     unfolding run_refusal
-    not-refused k b = sym (if-false (not (sound t)) 34 _ h ∙ if-false (too_short t answers) 35 _ k ∙ if-false (bad_cursor t l p s) 36 _ b)
+    not-refused k b = if-false (not (sound t)) 34 _ h ∙ if-false (too_short t answers) 35 _ k ∙ if-false (bad_cursor t l p s) 36 _ b
