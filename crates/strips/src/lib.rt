@@ -58,12 +58,8 @@ fn at_once(routine: Routine, w: usize) -> usize
     ensures { (0 < result) × (result ≤ widest routine) }
 {
     match routine {
-        Routine::Gemm => 4 * w,
-        Routine::Symm => 4 * w,
-        Routine::Syrk => 4 * w,
-        Routine::Syr2k => 4 * w,
-        Routine::Trmm => w,
-        Routine::Trsm => w,
+        Routine::Gemm | Routine::Symm | Routine::Syrk | Routine::Syr2k => 4 * w,
+        Routine::Trmm | Routine::Trsm => w,
     }
 }
 
@@ -77,11 +73,9 @@ pub fn complete(call: Call, a: &[f64], b: &[f64], out: &mut [f64], w: usize, r: 
     let routine = call.routine;
     let most = at_once(routine, w);
     let mut zero = -1;
-    let mut from = 0;
-    while from < d {
-        let lines = arrays::smaller(most, d - from);
+    for from in (0..d).step_by(most) {
+        let lines = most.min(d - from);
         zero = strip(call, a, b, out, from, lines, r);
-        from += lines;
     }
     zero
 }
