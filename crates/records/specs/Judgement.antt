@@ -1,5 +1,5 @@
 -- What the tests of a record come to: refused with a number, accepted with nothing to do, or accepted with work.
-use Rattle.std.specs.Prelude.{ℕ, ◌+◌, ◌*◌, ◌≤◌, ◌≡◌, Bool, ◌||◌, List, ltb, eqb, ℤ, length, Float, if◌then◌else◌}
+use Rattle.std.specs.Prelude.{ℕ, ◌<◌, ◌+◌, ◌*◌, ◌≤◌, ◌≡◌, Bool, ◌||◌, List, ltb, eqb, ℤ, length, Float, if◌then◌else◌}
 use Rattle.std.proofs.Math.Option.{Option, none, some}
 use Rattle.definitions.specs.Call.{extent}
 use Rattle.definitions.specs.Check.{nat, negative, call_of, checked}
@@ -30,9 +30,9 @@ arrays_of x y z = record { x = x; y = y; z = z }
 abbrev pub arrays_in : Lent → Arrays
 arrays_in l = arrays_of l.x.now l.y.now l.z.now
 
--- Record p begins at word `at`, and the sheet has all of it.
+-- Record p begins at word `at`, and the sheet has all of it, and its scalars.
 abbrev pub At : Sheet → ℕ → ℕ → Type 0
-At t p at = (at ≡ nat (index t) + 20 * p) × (at + 20 ≤ length t.words)
+At t p at = (at ≡ nat (index t) + 20 * p) × (at + 20 ≤ length t.words) × (2 * p + 1 < length t.scalars)
 
 abbrev pub lengths_of : Arrays → Lengths
 lengths_of l = record { x = length l.x; y = length l.y; z = length l.z }

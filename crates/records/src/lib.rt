@@ -32,6 +32,7 @@ pub struct Record<'a> {
     pub sheet: Sheet<'a>,
     pub p: usize,
     pub at: usize,
+    ghost placed: { Judgement.At (Judgement.sheet_in sheet) p at },
 }
 
 // The lent arrays.
@@ -68,7 +69,7 @@ pub struct Matrices {
 impl<'a> Record<'a> {
     // Word q of the record.
     fn word(self, q: usize) -> i32
-        requires { Judgement.At (Judgement.sheet_in self.sheet) self.p self.at × (q < 20) }
+        requires { q < 20 }
         ensures { result ≡ Sheets.field (Judgement.sheet_in self.entry.sheet) self.entry.p q }
     {
         self.sheet.words[self.at + q]
@@ -76,7 +77,7 @@ impl<'a> Record<'a> {
 
     // The matrix whose array number is word q.
     fn part(self, q: usize) -> Part
-        requires { Judgement.At (Judgement.sheet_in self.sheet) self.p self.at × (q < 19) }
+        requires { q < 19 }
         ensures { result ≡ Judgement.part_at (Judgement.sheet_in self.entry.sheet) self.entry.p q }
     {
         let array = arguments::size(self.word(q)) as usize;
@@ -86,7 +87,6 @@ impl<'a> Record<'a> {
 
     // Its matrices, if the routine is its own.
     pub fn matrices(self, routine: Routine) -> Matrices
-        requires { Judgement.At (Judgement.sheet_in self.sheet) self.p self.at }
         ensures { result ≡ Judgement.matrices_of (Judgement.sheet_in self.entry.sheet) self.entry.p routine }
     {
         Matrices {
@@ -98,7 +98,6 @@ impl<'a> Record<'a> {
 
     // The width of its strips.
     pub fn width(self) -> usize
-        requires { Judgement.At (Judgement.sheet_in self.sheet) self.p self.at }
         ensures { result ≡ Sheets.width_of (Judgement.sheet_in self.entry.sheet) self.entry.p }
     {
         arguments::width(self.word(18))
@@ -106,7 +105,6 @@ impl<'a> Record<'a> {
 
     // The size of its blocks.
     pub fn block(self) -> usize
-        requires { Judgement.At (Judgement.sheet_in self.sheet) self.p self.at }
         ensures { result ≡ Check.width (Sheets.field (Judgement.sheet_in self.entry.sheet) self.entry.p 19) }
     {
         arguments::width(self.word(19))
@@ -227,7 +225,6 @@ fn settled(answer: Checked, call: Call) -> Judged
 
 impl<'a> Record<'a> {
     fn bad_arrays(self, routine: Routine) -> bool
-        requires { Judgement.At (Judgement.sheet_in self.sheet) self.p self.at }
         ensures { result ≡ Sheets.bad_arrays (Judgement.sheet_in self.entry.sheet) self.entry.p routine }
     {
         let out = self.word(output(routine));
@@ -237,7 +234,6 @@ impl<'a> Record<'a> {
     }
 
     fn bad_offsets(self, routine: Routine, lengths: Lengths) -> bool
-        requires { Judgement.At (Judgement.sheet_in self.sheet) self.p self.at }
         ensures { result ≡ Sheets.bad_offsets (Judgement.sheet_in self.entry.sheet) self.entry.p routine
             (Judgement.sizes lengths) }
     {
@@ -253,7 +249,7 @@ impl<'a> Record<'a> {
 
     // The length of the matrix whose array number is word q: that of its array from the offset on.
     fn part_length(self, q: usize, lengths: Lengths) -> usize
-        requires { Judgement.At (Judgement.sheet_in self.sheet) self.p self.at × (q < 19) }
+        requires { q < 19 }
         ensures { result ≡ Sheets.part_length (Judgement.sheet_in self.entry.sheet) self.entry.p q (Judgement.sizes lengths) }
     {
         let part = self.part(q);
@@ -261,7 +257,6 @@ impl<'a> Record<'a> {
     }
 
     fn args_of(self, routine: Routine, lengths: Lengths) -> Args
-        requires { Judgement.At (Judgement.sheet_in self.sheet) self.p self.at × (2 * self.p + 1 < length self.sheet.scalars.now) }
         ensures { (result ≡ Sheets.args_of (Judgement.sheet_in self.entry.sheet) self.entry.p routine
             (Judgement.sizes lengths)) × (Check.nat result.m < 2 ^ 31) × (Check.nat result.n < 2 ^ 31) }
     {
@@ -295,7 +290,6 @@ impl<'a> Record<'a> {
 
     // The tests of the record.
     pub fn judge(self, lengths: Lengths) -> Judged
-        requires { Judgement.At (Judgement.sheet_in self.sheet) self.p self.at × (2 * self.p + 1 < length self.sheet.scalars.now) }
         ensures { let t = Judgement.sheet_in self.entry.sheet in
             (result ≡ Judgement.judged t self.entry.p (Judgement.sizes lengths) (Sheets.routine_of (Sheets.field t self.entry.p 0)))
             × (Judgement.extent_of result < 2 ^ 31) }
@@ -316,7 +310,6 @@ impl<'a> Record<'a> {
 
     // The number of its strips, 0 if it is refused.
     fn strips_of(self, arrays: Arrays) -> usize
-        requires { Judgement.At (Judgement.sheet_in self.sheet) self.p self.at × (2 * self.p + 1 < length self.sheet.scalars.now) }
         ensures { result ≡ Machine.strips_of (Sheets.act (Judgement.sheet_in self.entry.sheet) self.entry.p
             (Judgement.arrays_in arrays.entry)) }
     {

@@ -100,7 +100,6 @@ fn put(
 
 // Strip s of a record whose call is this one. It hands back whether the call is a solve with a zero on the diagonal.
 fn work(here: Record, call: Call, x: &mut [f64], y: &mut [f64], z: &mut [f64], s: usize) -> bool
-    requires at { Judgement.At (sheet_in here.sheet) here.p here.at }
     requires lends { Lent.Lends call (Judgement.matrices_of (sheet_in here.sheet) here.p call.routine) (arrays_of x.old y.old z.old) }
     requires width { let w = Sheets.width_of (sheet_in here.sheet) here.p in (0 < w) × (w ≤ 64) × (s * w < Calls.extent call) }
     requires block { let r = Check.width (Sheets.field (sheet_in here.sheet) here.p 19) in (0 < r) × (r ≤ 64) }
@@ -153,7 +152,7 @@ fn step(
     answers: &mut [i32],
     s: usize,
 ) -> Stepped
-    requires at { Judgement.At (sheet_in here.sheet) here.p here.at × (2 * here.p + 1 < length here.sheet.scalars.now) × (here.p < length answers.old) }
+    requires answer { here.p < length answers.old }
     requires s_bound { (0 < s → s < Machine.strips_of (Sheets.act (sheet_in here.sheet) here.p (arrays_of x.old y.old z.old))) × (s < 2 ^ 31) }
     ensures { let act = Sheets.act (sheet_in here.entry.sheet) here.entry.p (arrays_of x.old y.old z.old) in
         let st = Run.begin (arrays_of x.old y.old z.old) answers.old here.entry.p s in

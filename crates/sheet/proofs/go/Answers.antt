@@ -28,17 +28,19 @@ returns-then-count-cursor c =
     let h = running-done (records (sheet_in c.args.sheet)) (act (sheet_in c.args.sheet)) (act-stable (sheet_in c.args.sheet)) c.args.budget (begin (arrays_of c.args.x.now c.args.y.now c.args.z.now) c.args.answers.now c.args.from.p c.args.from.s) c.loop-steps.steps c.loop-steps.zero (begin (arrays_of c.loop-steps.x c.loop-steps.y c.loop-steps.z) c.loop-steps.answers c.loop-steps.cursor.p c.loop-steps.cursor.s) i (omega (arith, c.if-count-cursor.true, n.0)) in
     (h.0, h.1, h.2, omega (arith, i.placed.within, n), c.loop-steps.invariant.1, small-below _ _ _ i.small (omega (arith, n)))
 
-pub step-next-requires-clause-at : goal.step-next-requires-clause-at
-step-next-requires-clause-at c =
+pub invariant_of-here : goal.invariant_of-here
+invariant_of-here c =
     let t = sheet_in c.args.sheet in
     let room = sound-room t (sound-long t c.requires.sound.0) c.requires.sound.0 in
     let long = long-enough t _ c.requires.sound.1 in
     let n = c.count-count.ensures.0 in
-    let b = c.if-count-cursor.false in (
-      (ap (λ i. i + 20 * c.loop-steps.cursor.p) c.index-index.ensures.0, omega (arith, c.index-index.ensures.0, n, b, room)),
-      omega (arith, n, b, long.1),
-      omega (arith, n, b, long.0, c.loop-steps.auto.answers),
-    )
+    let b = c.if-count-cursor.false in record {
+      placed = (ap (λ i. i + 20 * c.loop-steps.cursor.p) c.index-index.ensures.0, omega (arith, c.index-index.ensures.0, n, b, room), omega (arith, n, b, long.1));
+    }
+
+pub step-next-requires-clause-answer : goal.step-next-requires-clause-answer
+step-next-requires-clause-answer c =
+    omega (arith, c.count-count.ensures.0, c.if-count-cursor.false, (long-enough (sheet_in c.args.sheet) _ c.requires.sound.1).0, c.loop-steps.auto.answers)
 
 pub step-next-requires-clause-s_bound : goal.step-next-requires-clause-s_bound
 unfolding begin

@@ -13,4 +13,4 @@ use Rattle.records.proofs.Record.word.Goals as goal
 pub returns : goal.returns
 returns c =
     let same : to_z w32 (of_z w32 (get_or c.args.self.sheet.words.now (c.args.self.at + c.args.q) (pos 0))) ≡ get_or c.args.self.sheet.words.now (c.args.self.at + c.args.q) (pos 0) = search rules in
-    same ∙ field_is (sheet_in c.args.self.sheet) c.args.self.p c.args.self.at c.requires.0.0 c.args.q
+    same ∙ field_is (sheet_in c.args.self.sheet) c.args.self.p c.args.self.at c.args.self.placed.0 c.args.q
