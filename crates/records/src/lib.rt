@@ -1,7 +1,7 @@
 // A call sheet: the words of its records, their tests, 31, 32, 33 and those of a direct call, and the tests of a run, 34, 35 and 36.
 #![tactic(auto)]
 
-ghost use Rattle.std.specs.Prelude.{◌≡◌, not, ◌||◌, List, ℕ, ◌+◌, ◌*◌, ◌-◌, ◌^◌, ◌≤◌, ◌<◌, ltb, pos, Float, length, get_or, MatchOption};
+ghost use Rattle.std.specs.Prelude.{◌≡◌, not, ◌||◌, ◌+◌, ◌*◌, ◌^◌, ◌≤◌, ◌<◌, ltb, pos, length, get_or, MatchOption};
 ghost use Rattle.std.proofs.Math.Option.{none, some};
 ghost use Rattle.definitions.specs.Check as Check;
 ghost use Rattle.definitions.specs.Machine as Machine;
@@ -45,10 +45,10 @@ pub struct Arrays<'a> {
 
 // Their lengths.
 #[derive(Clone, Copy)]
-pub struct Lengths {
-    pub x: usize,
-    pub y: usize,
-    pub z: usize,
+struct Lengths {
+    x: usize,
+    y: usize,
+    z: usize,
 }
 
 // A matrix of a record: the number of its array, and the offset of its first element.
@@ -66,7 +66,9 @@ pub struct Matrices {
     pub b: Part,
 }
 
-impl<'a> Record<'a> {
+// ---- words and matrices
+
+impl Record<'_> {
     // Word q of the record.
     fn word(self, q: usize) -> i32
         requires { q < 20 }
@@ -122,17 +124,6 @@ impl<'a> Arrays<'a> {
             _ => self.z,
         }
     }
-
-    // The lengths of the arrays.
-    pub fn lengths(self) -> Lengths
-        ensures { result ≡ Judgement.lengths_of (Judgement.arrays_in self.entry) }
-    {
-        Lengths {
-            x: self.x.len(),
-            y: self.y.len(),
-            z: self.z.len(),
-        }
-    }
 }
 
 impl Lengths {
@@ -150,7 +141,7 @@ impl Lengths {
 
 // ---- the routine
 
-// The routine with that number.
+// The routine with that number, if there is one.
 fn routine_of(code: i32) -> Option<Routine>
     ensures { MatchOption result (Sheets.routine_of code ≡ none) (λ f. Sheets.routine_of code ≡ some f) }
 {
@@ -213,6 +204,7 @@ fn bad_offset(number: i32, offset: i32, lengths: Lengths) -> bool
 
 // ---- all tests
 
+// What the answer of the direct call's check comes to.
 fn settled(answer: Checked, call: Call) -> Judged
     ensures { result ≡ Judgement.settled answer call }
 {
@@ -223,7 +215,8 @@ fn settled(answer: Checked, call: Call) -> Judged
     }
 }
 
-impl<'a> Record<'a> {
+impl Record<'_> {
+    // 32: a number of an array is bad.
     fn bad_arrays(self, routine: Routine) -> bool
         ensures { result ≡ Sheets.bad_arrays (Judgement.sheet_in self.entry.sheet) self.entry.p routine }
     {
@@ -233,9 +226,9 @@ impl<'a> Record<'a> {
         bad_numbers(out, a, b)
     }
 
+    // 33: an offset is bad.
     fn bad_offsets(self, routine: Routine, lengths: Lengths) -> bool
-        ensures { result ≡ Sheets.bad_offsets (Judgement.sheet_in self.entry.sheet) self.entry.p routine
-            (Judgement.sizes lengths) }
+        ensures { result ≡ Sheets.bad_offsets (Judgement.sheet_in self.entry.sheet) self.entry.p routine (Judgement.sizes lengths) }
     {
         let o = output(routine);
         let s = second(routine);
@@ -244,8 +237,6 @@ impl<'a> Record<'a> {
         let b = bad_offset(self.word(s), self.word(s + 1), lengths);
         out | (a | b)
     }
-
-    // ---- the arguments of the record's call
 
     // The length of the matrix whose array number is word q: that of its array from the offset on.
     fn part_length(self, q: usize, lengths: Lengths) -> usize
@@ -256,6 +247,7 @@ impl<'a> Record<'a> {
         lengths.of(part.array).saturating_sub(part.offset)
     }
 
+    // The arguments of its call.
     fn args_of(self, routine: Routine, lengths: Lengths) -> Args
         ensures { (result ≡ Sheets.args_of (Judgement.sheet_in self.entry.sheet) self.entry.p routine
             (Judgement.sizes lengths)) × (Check.nat result.m < 2 ^ 31) × (Check.nat result.n < 2 ^ 31) }
@@ -286,16 +278,19 @@ impl<'a> Record<'a> {
         }
     }
 
-    // ---- all tests
-
-    // The tests of the record.
-    pub fn judge(self, lengths: Lengths) -> Judged
-        ensures { let t = Judgement.sheet_in self.entry.sheet in
-            (result ≡ Judgement.judged t self.entry.p (Judgement.sizes lengths) (Sheets.routine_of (Sheets.field t self.entry.p 0)))
+    // All tests of the record.
+    pub fn judge(self, arrays: Arrays) -> Judged
+        ensures { let t = Judgement.sheet_in self.entry.sheet in let size = Judgement.sizes (Judgement.lengths_of (Judgement.arrays_in arrays.entry)) in
+            (result ≡ Judgement.judged t self.entry.p size (Sheets.routine_of (Sheets.field t self.entry.p 0)))
             × (Judgement.extent_of result < 2 ^ 31) }
     {
         let Some(f) = routine_of(self.word(0)) else {
             return Judged::Rejected(31);
+        };
+        let lengths = Lengths {
+            x: arrays.x.len(),
+            y: arrays.y.len(),
+            z: arrays.z.len(),
         };
         if self.bad_arrays(f) {
             return Judged::Rejected(32);
@@ -310,10 +305,9 @@ impl<'a> Record<'a> {
 
     // The number of its strips, 0 if it is refused.
     fn strips_of(self, arrays: Arrays) -> usize
-        ensures { result ≡ Machine.strips_of (Sheets.act (Judgement.sheet_in self.entry.sheet) self.entry.p
-            (Judgement.arrays_in arrays.entry)) }
+        ensures { result ≡ Machine.strips_of (Sheets.act (Judgement.sheet_in self.entry.sheet) self.entry.p (Judgement.arrays_in arrays.entry)) }
     {
-        match self.judge(arrays.lengths()) {
+        match self.judge(arrays) {
             Judged::Rejected(_) => 0,
             Judged::NoWork(call) | Judged::Work(call) => arguments::strips(self.width(), call),
         }
@@ -338,7 +332,7 @@ fn too_short(count: usize, answers: usize, scalars: usize) -> bool
     (answers < count) | (scalars < 2 * count)
 }
 
-impl<'a> Sheet<'a> {
+impl Sheet<'_> {
     // The first word of record 0.
     pub fn index(self) -> usize
         requires { 2 ≤ length self.words.now }
@@ -371,11 +365,9 @@ impl<'a> Sheet<'a> {
 
     // 36: the cursor is neither the first strip of a record, nor the finish, nor a further strip of an accepted record. The records begin at word `index`.
     fn bad_cursor(self, index: usize, count: usize, arrays: Arrays, p: i32, s: i32) -> bool
-        requires index_value { (index ≡ Check.nat (Sheets.index (Judgement.sheet_in self)))
-            × (count ≡ Sheets.records (Judgement.sheet_in self)) }
+        requires index_value { (index ≡ Check.nat (Sheets.index (Judgement.sheet_in self))) × (count ≡ Sheets.records (Judgement.sheet_in self)) }
         requires count_in_bounds { (index + 20 * count ≤ length self.words.now) × (2 * count ≤ length self.scalars.now) }
-        ensures { result ≡ Run.bad_cursor (Judgement.sheet_in self.entry)
-            (Judgement.arrays_in arrays.entry) p s }
+        ensures { result ≡ Run.bad_cursor (Judgement.sheet_in self.entry) (Judgement.arrays_in arrays.entry) p s }
     {
         if arguments::negative(s) {
             return true;
