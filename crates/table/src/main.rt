@@ -1,7 +1,7 @@
 // The table of document 01, through the public calls: for each row its letter, a space, `ok` or `no`, and a line end.
 #![tactic(auto)]
 
-ghost use Rattle.std.specs.Prelude.{◌≡◌, true};
+ghost use Rattle.std.specs.Prelude.{◌≡◌, ◌↔◌, IsTrue};
 
 use definitions::RunEnd;
 use std::io;
@@ -18,7 +18,7 @@ const P: f64 = 9007199254740992.0;
 
 // The same bits, or two NaNs.
 fn same(x: f64, y: f64) -> bool
-    ensures { (result ≡ true → x ≡ y) × (x ≡ y → result ≡ true) }
+    ensures { IsTrue result ↔ x ≡ y }
 {
     if x.is_nan() {
         return y.is_nan();
@@ -31,7 +31,7 @@ fn same(x: f64, y: f64) -> bool
 
 // The same values, one by one.
 fn agree(list: &[f64], res: &[f64]) -> bool
-    ensures { (result ≡ true → list.now ≡ res.now) × (list.now ≡ res.now → result ≡ true) }
+    ensures { IsTrue result ↔ list.now ≡ res.now }
 {
     list.len() == res.len() && list.iter().zip(res).all(|(x, y)| same(*x, *y))
 }
