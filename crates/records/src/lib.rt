@@ -1,7 +1,7 @@
 // A call sheet: the words of its records, their tests, 31, 32, 33 and those of a direct call, and the tests of a run, 34, 35 and 36.
 #![tactic(auto)]
 
-ghost use Rattle.std.specs.Prelude.{◌≡◌, not, ◌||◌, ◌+◌, ◌*◌, ◌^◌, ◌≤◌, ◌<◌, ltb, pos, length, get_or, MatchOption};
+ghost use Rattle.std.specs.Prelude.{◌≡◌, true, not, ◌+◌, ◌*◌, ◌^◌, ◌≤◌, ◌<◌, pos, length, get_or, MatchOption};
 ghost use Rattle.std.proofs.Math.Option.{none, some};
 ghost use Rattle.definitions.specs.Check as Check;
 ghost use Rattle.definitions.specs.Machine as Machine;
@@ -324,14 +324,6 @@ fn size_at(words: &[i32], at: usize) -> usize
     arguments::size(words[at]) as usize
 }
 
-// 35: answers or scalars are too few.
-fn too_short(count: usize, answers: usize, scalars: usize) -> bool
-    requires { count < 2 ^ 31 }
-    ensures { result ≡ (ltb answers count || ltb scalars (2 * count)) }
-{
-    (answers < count) | (scalars < 2 * count)
-}
-
 impl Sheet<'_> {
     // The first word of record 0.
     pub fn index(self) -> usize
@@ -363,12 +355,23 @@ impl Sheet<'_> {
         negative | (minus | (end != length - 2))
     }
 
-    // 36: the cursor is neither the first strip of a record, nor the finish, nor a further strip of an accepted record. The records begin at word `index`.
-    fn bad_cursor(self, index: usize, count: usize, arrays: Arrays, p: i32, s: i32) -> bool
-        requires index_value { (index ≡ Check.nat (Sheets.index (Judgement.sheet_in self))) × (count ≡ Sheets.records (Judgement.sheet_in self)) }
-        requires count_in_bounds { (index + 20 * count ≤ length self.words.now) × (2 * count ≤ length self.scalars.now) }
+    // 35: answers or scalars are too few.
+    fn too_short(self, answers: &[i32]) -> bool
+        requires { 2 ≤ length self.words.now }
+        ensures { result ≡ Run.too_short (Judgement.sheet_in self.entry) answers.now }
+    {
+        let count = self.count();
+        (answers.len() < count) | (self.scalars.len() < 2 * count)
+    }
+
+    // 36: the cursor is neither the first strip of a record, nor the finish, nor a further strip of an accepted record.
+    fn bad_cursor(self, arrays: Arrays, p: i32, s: i32) -> bool
+        requires sound { Sheets.sound (Judgement.sheet_in self) ≡ true }
+        requires scalars { 2 * Sheets.records (Judgement.sheet_in self) ≤ length self.scalars.now }
         ensures { result ≡ Run.bad_cursor (Judgement.sheet_in self.entry) (Judgement.arrays_in arrays.entry) p s }
     {
+        let index = self.index();
+        let count = self.count();
         if arguments::negative(s) {
             return true;
         }
@@ -399,12 +402,10 @@ impl Sheet<'_> {
         if self.bad_trailer() {
             return Some(34);
         }
-        let index = self.index();
-        let count = self.count();
-        if too_short(count, answers.len(), self.scalars.len()) {
+        if self.too_short(answers) {
             return Some(35);
         }
-        if self.bad_cursor(index, count, arrays, p, s) {
+        if self.bad_cursor(arrays, p, s) {
             return Some(36);
         }
         None

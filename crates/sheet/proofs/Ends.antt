@@ -1,16 +1,15 @@
 -- How a run ends: refused, or after the steps that it made.
 -- Assumes nothing.
-use Prim.Native.Nat.{ℕ, ◌*◌, ◌≤◌, ◌<◌}
+use Prim.Native.Nat.{ℕ, ◌<◌}
 use mathlib.Core.Path.{◌≡◌, sym, ap, subst, ◌∙◌}
 use mathlib.Core.Bool.{true, false, not}
 use mathlib.Core.List.{List}
 use native.Mathlib.Omega.{arith}
-use lib.Dec.{ltb, eqb}
+use lib.Dec.{eqb}
 use lib.IntN.{ℤ, pos}
-use lib.ListN.{length}
-use borrow.Author.Tests.{not-false, ltb-false, eq-eqb, ne_eqb}
+use borrow.Author.Tests.{not-false, eq-eqb, ne_eqb}
 use Rattle.arrays.specs.Search.{none}
-use Rattle.arrays.proofs.Tests.{or_left, or_right, if-true, if-false, by-test}
+use Rattle.arrays.proofs.Tests.{if-true, if-false, by-test}
 use Rattle.definitions.specs.Check.{nat}
 use Rattle.definitions.specs.Sheet.{Sheet, Arrays, sound, records, act}
 use Rattle.definitions.proofs.MachineLaws.{Placed}
@@ -52,14 +51,6 @@ module _ (t : Sheet) (l : Arrays) (answers : List ℤ) (p s : ℤ) where
   unfolding run begin
   run-goes budget steps z l' answers' p' s' a b ea eb ok eg es ez =
       (λ i. ran 0 (ea i) (eb i) steps z l' answers') ∙ (λ i. ran_to (eg i) (es i) (ez i)) ∙ sym (if-true (eqb e 0) _ _ (eq-eqb e 0 ok))
-
--- what "long enough" means
-pub long-enough : (t : Sheet) (answers : List ℤ) → too_short t answers ≡ false → (records t ≤ length answers) × (2 * records t ≤ length t.scalars)
-unfolding too_short
-long-enough t answers h = (
-  ltb-false _ _ (or_left (ltb (length answers) (records t)) (ltb (length t.scalars) (2 * records t)) h),
-  ltb-false _ _ (or_right (ltb (length answers) (records t)) (ltb (length t.scalars) (2 * records t)) h),
-)
 
 -- a cursor that is not refused is a sound one
 pub placed_at : (t : Sheet) (l : Arrays) (answers : List ℤ) (p s : ℤ) (q u : ℕ) → q ≡ nat p → u ≡ nat s → bad_cursor t l p s ≡ false

@@ -6,8 +6,7 @@ use Rattle.definitions.specs.Sheet.{records, act}
 use Rattle.definitions.specs.Run.{begin, after, steps_made, zero_reported}
 use Rattle.definitions.proofs.Records.{act-stable}
 use Rattle.records.specs.Judgement.{sheet_in, arrays_of}
-use Rattle.records.proofs.Trailer.{sound-long, sound-room}
-use Rattle.sheet.proofs.Ends.{long-enough}
+use Rattle.records.proofs.Trailer.{sound-long, sound-room, long-enough}
 use Rattle.sheet.proofs.Steps.{running-start, running-step, running-full, running-done, small-below}
 use Rattle.sheet.proofs.go.Goals as goal
 
