@@ -2,15 +2,18 @@
 -- Assumes nothing.
 use Prim.Native.Nat.{ℕ, suc, ◌+◌, ◌*◌, ◌≤◌, ◌<◌}
 use mathlib.Core.Path.{◌≡◌, sym, ap, subst, fun_ext, ◌∙◌}
+use Rattle.std.specs.Prelude.{Option, None}
+use Rattle.std.specs.Bool.{then_some}
+use Rattle.std.proofs.Common.{◌⊎◌, ⊎_elim}
 use mathlib.Core.Bool.{Bool, true, false, not}
-use mathlib.Core.Option.{Option}
+use mathlib.Core.Option.{Option as MayBe}
 use mathlib.Core.List.{List, ◌++◌}
 use native.Mathlib.Nat.{mul-le-mul_left, mul-one}
 use native.Mathlib.Numerals.{add-one}
 use native.Mathlib.Omega.{arith}
 use lib.Dec.{eqb}
 use lib.IntN.{ℤ, pos}
-use lib.ListN.{length, set, take, drop, take-append-drop}
+use lib.ListN.{set, take, drop, take-append-drop}
 use lib.Ieee.{Float}
 use borrow.Author.Tests.{ne_eqb}
 use Rattle.arrays.proofs.Tests.{if-true, or-both, by-test}
@@ -28,7 +31,7 @@ use Rattle.definitions.proofs.CheckLaws.{strip-width, block_size}
 use Rattle.definitions.proofs.Fits.{ready-fits}
 use Rattle.definitions.proofs.Strips.{strip-begins}
 use Rattle.definitions.proofs.Records.{array-self, Accepted, record_call, record-routine}
-use Rattle.records.specs.Judgement.{sizes, judged, act_of}
+use Rattle.records.specs.Judgement.{lengths_of, sizes, judged, act_of}
 use Rattle.records.specs.declared.Judged.{Judged}
 use Rattle.records.specs.declared.Judged.TheVariants.{Rejected, NoWork, Work}
 use Rattle.records.proofs.Judgements.{sizes-are, act-is, Taken, when-work, when-none, rejected-small}
@@ -44,7 +47,7 @@ idle-strip t p f c from to l h =
     ∙ ap (with_array l number) (take-append-drop offset (array l number)) ∙ array-self l number)
 
 module _ (t : Sheet) (p : ℕ) (l : Arrays) (v : Judged)
-    (ev : v ≡ judged t p (sizes (length l.x) (length l.y) (length l.z)) (routine_of (field t p 0))) where
+    (ev : v ≡ judged t p (sizes (lengths_of l)) (routine_of (field t p 0))) where
   judgement : judged t p (lengths l) (routine_of (field t p 0)) ≡ v
   judgement = ap (λ (size : ℕ → ℕ). judged t p size (routine_of (field t p 0))) (fun_ext (sizes-are l)) ∙ sym ev
 
@@ -61,9 +64,9 @@ module _ (t : Sheet) (p : ℕ) (l : Arrays) (v : Judged)
       (λ i. record { arrays = l; answers = set answers p (pos e); p = add-one p i; s = 0 })
       ∙ sym (ap (λ (a : Act Arrays). perform a (begin l answers p s)) (does ∙ ap (act_of t p) h))
 
-  pub rejected-counts : (e : ℕ) → v ≡ Rejected e → (st : Machine) → false ≡ counts (act t p l) st
+  pub rejected-counts : (e : ℕ) → v ≡ Rejected e → (st : Machine) → None ≡ then_some (counts (act t p l) st) p
   unfolding counts act_of
-  rejected-counts e h st = sym (ap (λ (a : Act Arrays). counts a st) (does ∙ ap (act_of t p) h))
+  rejected-counts e h st = sym (ap (λ (a : Act Arrays). then_some (counts a st) p) (does ∙ ap (act_of t p) h))
 
   pub rejected-strips : (e : ℕ) → v ≡ Rejected e → 0 ≡ strips_of (act t p l)
   unfolding strips_of act_of
@@ -81,12 +84,13 @@ module _ (t : Sheet) (p : ℕ) (l : Arrays) (v : Judged)
     unfolding accepted
     works = a ∙ ap (λ (k : ℕ). work (strips k c) (strip-update c) (singular c)) (sym ew)
 
-    -- the state after a step, and whether it counts
-    pub accepted-step : (n : ℕ) → n ≡ strips w c → (st st' : Machine) (z : Bool) → (st' ≡ perform (work n (strip-update c) (singular c)) st) × (z ≡ counts (work n (strip-update c) (singular c)) st)
-        → (st' ≡ perform (act t p l) st) × (z ≡ counts (act t p l) st)
+    -- the state after a step, and the record if it counts
+    pub accepted-step : (n : ℕ) → n ≡ strips w c → (st st' : Machine) (z : Option ℕ)
+        → (st' ≡ perform (work n (strip-update c) (singular c)) st) × (z ≡ then_some (counts (work n (strip-update c) (singular c)) st) p)
+        → (st' ≡ perform (act t p l) st) × (z ≡ then_some (counts (act t p l) st) p)
     accepted-step n en st st' z h =
         let e = sym (works ∙ ap (λ (k : ℕ). work k (strip-update c) (singular c)) (sym en)) in
-        (h.0 ∙ ap (λ (a : Act Arrays). perform a st) e, h.1 ∙ ap (λ (a : Act Arrays). counts a st) e)
+        (h.0 ∙ ap (λ (a : Act Arrays). perform a st) e, h.1 ∙ ap (λ (a : Act Arrays). then_some (counts a st) p) e)
 
     pub accepted-strips : strips_of (act t p l) ≡ strips w c
     unfolding strips_of
@@ -100,6 +104,9 @@ module _ (t : Sheet) (p : ℕ) (l : Arrays) (v : Judged)
   unfolding act_of
   work-act c h = does ∙ ap (act_of t p) h
 
+  pub taken-act : (c : Call) → (v ≡ NoWork c) ⊎ (v ≡ Work c) → act t p l ≡ accepted t p c.routine c
+  taken-act c h = ⊎_elim (none-act c) (work-act c) h
+
   -- what is known of it, by its call's own routine
   pub record Known (c : Call) : Type 0 where
     pub accepts : Accepted t p (lengths l) c.routine
@@ -107,10 +114,10 @@ module _ (t : Sheet) (p : ℕ) (l : Arrays) (v : Judged)
     pub wide : (0 < width_of t p) × (width_of t p ≤ 64)
     pub blocks : (0 < width (field t p 19)) × (width (field t p 19) ≤ 64)
 
-  routine-is : {o : Option Routine} (c : Call) (k : Taken t p (lengths l) o c) → k.f ≡ c.routine
+  routine-is : {o : MayBe Routine} (c : Call) (k : Taken t p (lengths l) o c) → k.f ≡ c.routine
   routine-is c k = sym (ap (λ (c : Call). c.routine) k.call-is ∙ record-routine t p (lengths l) k.f)
 
-  known_by : {o : Option Routine} (c : Call) → Taken t p (lengths l) o c → Known c
+  known_by : {o : MayBe Routine} (c : Call) → Taken t p (lengths l) o c → Known c
   unfolding width_of
   known_by c k =
       let r = routine-is c k in
@@ -133,6 +140,9 @@ module _ (t : Sheet) (p : ℕ) (l : Arrays) (v : Judged)
 
   pub work-known : (c : Call) → v ≡ Work c → Known c
   work-known c h = known_by c (when-work t p (lengths l) _ c (judgement ∙ h)).0
+
+  pub taken-known : (c : Call) → (v ≡ NoWork c) ⊎ (v ≡ Work c) → Known c
+  taken-known c h = ⊎_elim (none-known c) (work-known c) h
 
   pub work-ready : (c : Call) → v ≡ Work c → checked (field t p 18) (field t p 19) (args_of t p c.routine (lengths l)) ≡ Ready c
   work-ready c h =

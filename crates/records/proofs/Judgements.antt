@@ -1,25 +1,25 @@
 -- The tests of a record, as the code goes through them, are those of the definitions; and what an accepted record satisfies.
 -- Assumes nothing.
-use Prim.Native.Nat.{ℕ, zero, suc, ◌+◌, ◌-◌, ◌*◌, ◌^◌, ◌≤◌, ◌<◌}
+use Prim.Native.Nat.{ℕ, zero, suc, ◌+◌, ◌*◌, ◌^◌, ◌≤◌, ◌<◌}
 use mathlib.Core.Path.{◌≡◌, refl, sym, ap, subst, ◌∙◌}
-use mathlib.Core.Bool.{Bool, true, false, ◌||◌, true≢false}
-use mathlib.Core.List.{List}
+use mathlib.Core.Bool.{Bool, true, false, ◌||◌}
+use mathlib.Core.List.{[], ◌∷◌}
 use mathlib.Core.Option.{Option, none, some}
 use native.Mathlib.Omega.{arith}
-use lib.Dec.{ltb, eqb, eqb-suc-zero}
+use lib.Dec.{eqb, eqb-suc-zero}
 use lib.IntN.{ℤ, pos, negsuc}
-use lib.ListN.{get_or, length}
+use lib.ListN.{get_or, get_elem?}
 use lib.Signed.{mag}
 use mir.Syntax.{w32}
 use mir.Val.{to_z, of_z}
 use mir.ValLaws.{to_z-of_z}
-use borrow.Author.Tests.{ltb-true, ne_eqb}
+use borrow.Author.Tests.{ne_eqb}
 use Rattle.std.specs.Prelude.{if◌then◌else◌}
-use Rattle.arrays.proofs.Tests.{and_right, if-true, if-false, by-test}
+use Rattle.arrays.proofs.Tests.{if-true, if-false, by-test}
 use Rattle.definitions.specs.Call.{has_m, in_place, cuts_rows, extent}
 use Rattle.definitions.specs.Check.{nat, side_of, refusal, idle, call_of, checked}
 use Rattle.definitions.specs.Machine.{refuse}
-use Rattle.definitions.specs.Sheet.{Sheet, Arrays, A, B, C, index, word, field, routine_of, output, inputs, any, array, lengths, part_length, bad_arrays, bad_offsets, args_of, record_refusal, accepted, act_by}
+use Rattle.definitions.specs.Sheet.{Sheet, Arrays, A, B, C, index, word, field, routine_of, output, inputs, any, array, lengths, bad_arrays, bad_offsets, args_of, record_refusal, accepted, act_by}
 use Rattle.definitions.specs.declared.Routine.{Routine}
 use Rattle.definitions.specs.declared.Routine.TheVariants.{Gemm, Symm, Syrk, Syr2k, Trmm, Trsm}
 use Rattle.definitions.specs.declared.Args.{Args}
@@ -28,47 +28,53 @@ use Rattle.definitions.specs.declared.Checked.{Checked}
 use Rattle.definitions.specs.declared.Checked.TheVariants.{Refused, Idle, Ready}
 use Rattle.definitions.proofs.CheckLaws.{when-ready, when-idle, when-refused}
 use Rattle.definitions.proofs.Records.{Accepted, record_call, record-routine}
-use Rattle.records.specs.Judgement.{sizes, known, routine_at, second, bad_number, bad_numbers, bad_offset, settled, judged, act_of, extent_of}
+use Rattle.records.specs.Judgement.{lengths_of, sizes, second, bad_number, bad_numbers, bad_offset, settled, judged, act_of, extent_of}
 use Rattle.records.specs.declared.Judged.{Judged}
 use Rattle.records.specs.declared.Judged.TheVariants.{Rejected, NoWork, Work}
 
 -- ---- words and lengths
 
-pub field_is : (t : Sheet) (words : List ℤ) (p at : ℕ) → t.words ≡ words → at ≡ nat (index t) + 20 * p → (q : ℕ) → get_or words (at + q) (pos 0) ≡ field t p q
+pub field_is : (t : Sheet) (p at : ℕ) → at ≡ nat (index t) + 20 * p → (q : ℕ) → get_or t.words (at + q) (pos 0) ≡ field t p q
 unfolding field word
-field_is t words p at w e q = λ i. get_or (sym w i) (e i + q) (pos 0)
+field_is t p at e q = λ i. get_or t.words (e i + q) (pos 0)
 
-pub sizes-are : (l : Arrays) (n : ℕ) → lengths l n ≡ sizes (length l.x) (length l.y) (length l.z) n
+-- a word that goes through its bits
+pub word-is : (z y : ℤ) → mag z < 2 ^ 31 → z ≡ y → to_z w32 (of_z w32 z) ≡ y
+word-is z y fits e = to_z-of_z w32 z (record { sfits = fits }) ∙ e
+
+pub sizes-are : (l : Arrays) (n : ℕ) → lengths l n ≡ sizes (lengths_of l) n
 unfolding lengths sizes array
 sizes-are l zero = refl
 sizes-are l (suc zero) = refl
 sizes-are l (suc (suc n)) = simp (eqb-suc-zero (suc n), ne_eqb (suc (suc n)) 1 (λ e. omega arith))
 
+pub array-Z : (l : Arrays) (n : ℕ) → 1 < n → l.z ≡ array l n
+unfolding array
+array-Z l zero h = absurd (let f : ⊥ = omega arith in f)
+array-Z l (suc zero) h = absurd (let f : ⊥ = omega arith in f)
+array-Z l (suc (suc n)) h = refl
+
 -- ---- the routine
 
-pub routine-known : (z : ℤ) → known z ≡ true → routine_of z ≡ some (routine_at (nat z))
-unfolding known routine_of routine_at
-routine-known (pos zero) h = absurd (true≢false (sym h))
-routine-known (pos (suc zero)) h = refl
-routine-known (pos (suc (suc zero))) h = refl
-routine-known (pos (suc (suc (suc zero)))) h = refl
-routine-known (pos (suc (suc (suc (suc zero))))) h = refl
-routine-known (pos (suc (suc (suc (suc (suc zero)))))) h = refl
-routine-known (pos (suc (suc (suc (suc (suc (suc zero))))))) h = refl
-routine-known (pos (suc (suc (suc (suc (suc (suc (suc n)))))))) h = absurd (let b : ⊥ = omega (arith, ltb-true (suc (suc (suc (suc (suc (suc (suc n))))))) 7 (and_right (ltb 0 (suc (suc (suc (suc (suc (suc (suc n)))))))) (ltb (suc (suc (suc (suc (suc (suc (suc n))))))) 7) h)) in b)
-routine-known (negsuc n) h = absurd (true≢false (sym h))
+-- a number from 1 on
+pub routine-numbered : (z : ℤ) (n : ℕ) → nat z ≡ suc n → routine_of z ≡ get_elem? (Gemm ∷ Symm ∷ Syrk ∷ Syr2k ∷ Trmm ∷ Trsm ∷ []) n
+unfolding routine_of
+routine-numbered (pos zero) n h = absurd (let f : ⊥ = omega arith in f)
+routine-numbered (pos (suc i)) n h = ap (λ (k : ℕ). get_elem? (Gemm ∷ Symm ∷ Syrk ∷ Syr2k ∷ Trmm ∷ Trsm ∷ []) k) (omega arith)
+routine-numbered (negsuc i) n h = absurd (let f : ⊥ = omega arith in f)
 
-pub routine-unknown : (z : ℤ) → known z ≡ false → routine_of z ≡ none
-unfolding known routine_of
-routine-unknown (pos zero) h = refl
-routine-unknown (pos (suc zero)) h = absurd (true≢false h)
-routine-unknown (pos (suc (suc zero))) h = absurd (true≢false h)
-routine-unknown (pos (suc (suc (suc zero)))) h = absurd (true≢false h)
-routine-unknown (pos (suc (suc (suc (suc zero))))) h = absurd (true≢false h)
-routine-unknown (pos (suc (suc (suc (suc (suc zero)))))) h = absurd (true≢false h)
-routine-unknown (pos (suc (suc (suc (suc (suc (suc zero))))))) h = absurd (true≢false h)
-routine-unknown (pos (suc (suc (suc (suc (suc (suc (suc n)))))))) h = refl
-routine-unknown (negsuc n) h = refl
+-- a number that none of them has
+pub routine-none : (z : ℤ) → (0 < nat z → 6 < nat z) → routine_of z ≡ none
+unfolding routine_of
+routine-none (pos zero) h = refl
+routine-none (pos (suc zero)) h = absurd (omega (arith, h (omega arith)))
+routine-none (pos (suc (suc zero))) h = absurd (omega (arith, h (omega arith)))
+routine-none (pos (suc (suc (suc zero)))) h = absurd (omega (arith, h (omega arith)))
+routine-none (pos (suc (suc (suc (suc zero))))) h = absurd (omega (arith, h (omega arith)))
+routine-none (pos (suc (suc (suc (suc (suc zero)))))) h = absurd (omega (arith, h (omega arith)))
+routine-none (pos (suc (suc (suc (suc (suc (suc zero))))))) h = absurd (omega (arith, h (omega arith)))
+routine-none (pos (suc (suc (suc (suc (suc (suc (suc n)))))))) h = refl
+routine-none (negsuc n) h = refl
 
 -- ---- 32 and 33
 
@@ -135,39 +141,26 @@ word_small z h = subst (λ (y : ℤ). nat y < 2 ^ 31) (sym (to_z-of_z w32 z (rec
     small (pos n) h = h
     small (negsuc n) h = omega arith
 
--- ---- as the code reads them: `at` is the record's first word, and a word goes through its bits
-
-module _ (t : Sheet) (words : List ℤ) (p at : ℕ) (w : t.words ≡ words) (e : at ≡ nat (index t) + 20 * p) where
-  pub word-is : (q q' : ℕ) (z : ℤ) → q ≡ q' → mag z < 2 ^ 31 → z ≡ get_or words (at + q) (pos 0) → to_z w32 (of_z w32 z) ≡ field t p q'
-  word-is q q' z eq fits ez = to_z-of_z w32 z (record { sfits = fits }) ∙ ez ∙ field_is t words p at w e q ∙ ap (field t p) eq
-
-  pub length-is : (size : ℕ → ℕ) (q n : ℕ) → n ≡ size (nat (get_or words (at + q) (pos 0))) - nat (get_or words (at + (q + 1)) (pos 0)) → n ≡ part_length t p q size
-  unfolding part_length
-  length-is size q n h = h ∙ (λ i. size (nat (field_is t words p at w e q i)) - nat (field_is t words p at w e (q + 1) i))
-
 -- ---- all tests
 
-module _ (t : Sheet) (p : ℕ) (size : ℕ → ℕ) (z : ℤ) (e : z ≡ field t p 0) where
-  pub judged-31 : known z ≡ false → Rejected 31 ≡ judged t p size (routine_of (field t p 0))
+module _ (t : Sheet) (p : ℕ) (size : ℕ → ℕ) where
+  pub judged-31 : routine_of (field t p 0) ≡ none → Rejected 31 ≡ judged t p size (routine_of (field t p 0))
   unfolding judged
-  judged-31 k = sym (ap (λ (y : ℤ). judged t p size (routine_of y)) (sym e) ∙ ap (judged t p size) (routine-unknown z k))
+  judged-31 r = sym (ap (judged t p size) r)
 
-  module _ (k : known z ≡ true) (f : Routine) (r : f ≡ routine_at (nat z)) where
-    routine-is : routine_of (field t p 0) ≡ some f
-    routine-is = ap routine_of (sym e) ∙ routine-known z k ∙ ap some (sym r)
-
+  module _ (f : Routine) (r : routine_of (field t p 0) ≡ some f) where
     pub judged-32 : bad_arrays t p f ≡ true → Rejected 32 ≡ judged t p size (routine_of (field t p 0))
     unfolding judged
-    judged-32 a = sym (ap (judged t p size) routine-is ∙ if-true (bad_arrays t p f) _ _ a)
+    judged-32 a = sym (ap (judged t p size) r ∙ if-true (bad_arrays t p f) _ _ a)
 
     pub judged-33 : bad_arrays t p f ≡ false → bad_offsets t p f size ≡ true → Rejected 33 ≡ judged t p size (routine_of (field t p 0))
     unfolding judged
-    judged-33 a o = sym (ap (judged t p size) routine-is ∙ if-false (bad_arrays t p f) _ _ a ∙ if-true (bad_offsets t p f size) _ _ o)
+    judged-33 a o = sym (ap (judged t p size) r ∙ if-false (bad_arrays t p f) _ _ a ∙ if-true (bad_offsets t p f size) _ _ o)
 
     pub judged-direct : bad_arrays t p f ≡ false → bad_offsets t p f size ≡ false
         → settled (checked (field t p 18) (field t p 19) (args_of t p f size)) (call_of (args_of t p f size)) ≡ judged t p size (routine_of (field t p 0))
     unfolding judged
-    judged-direct a o = sym (ap (judged t p size) routine-is ∙ if-false (bad_arrays t p f) _ _ a ∙ if-false (bad_offsets t p f size) _ _ o)
+    judged-direct a o = sym (ap (judged t p size) r ∙ if-false (bad_arrays t p f) _ _ a ∙ if-false (bad_offsets t p f size) _ _ o)
 
 -- What the record does is what its judgement says.
 pub act-is : (t : Sheet) (p : ℕ) (size : ℕ → ℕ) (o : Option Routine) → act_by t p size o ≡ act_of t p (judged t p size o)

@@ -8,8 +8,8 @@ use native.Mathlib.Omega.{arith}
 use lib.Dec.{leb, ltb, eqb}
 use lib.IntN.{ℤ, pos, negsuc}
 use lib.ListN.{length}
-use borrow.Author.Tests.{le-leb, lt-leb, leb-true, eqb-true}
-use Rattle.arrays.proofs.Tests.{and_left, and_right, if-true, if-false}
+use borrow.Author.Tests.{ltb-false, le-leb, lt-leb, leb-true, eqb-true}
+use Rattle.arrays.proofs.Tests.{or_left, or_right, and_left, and_right, if-true, if-false}
 use Rattle.definitions.specs.Check.{nat, negative}
 use Rattle.definitions.specs.Machine.{strips_of}
 use Rattle.definitions.specs.Sheet.{Sheet, Arrays, index, count, sound, records, act}
@@ -45,6 +45,16 @@ module _ (t : Sheet) (long : 2 ≤ length t.words) where
 pub sound-long : (t : Sheet) → sound t ≡ true → 2 ≤ length t.words
 unfolding sound
 sound-long t h = leb-true 2 _ (and_left (leb 2 (length t.words)) _ h)
+
+-- ---- 35
+
+-- what "long enough" means
+pub long-enough : (t : Sheet) (answers : List ℤ) → too_short t answers ≡ false → (records t ≤ length answers) × (2 * records t ≤ length t.scalars)
+unfolding too_short
+long-enough t answers h = (
+  ltb-false _ _ (or_left (ltb (length answers) (records t)) (ltb (length t.scalars) (2 * records t)) h),
+  ltb-false _ _ (or_right (ltb (length answers) (records t)) (ltb (length t.scalars) (2 * records t)) h),
+)
 
 -- ---- 36
 
@@ -94,6 +104,6 @@ module _ (t : Sheet) (l : Arrays) (answers : List ℤ) (p s : ℤ) where
     unfolding run_refusal
     refused-36 k b = sym (if-false (not (sound t)) 34 _ h ∙ if-false (too_short t answers) 35 _ k ∙ if-true (bad_cursor t l p s) 36 _ b)
 
-    pub not-refused : too_short t answers ≡ false → bad_cursor t l p s ≡ false → 0 ≡ run_refusal t l answers p s
+    pub not-refused : too_short t answers ≡ false → bad_cursor t l p s ≡ false → run_refusal t l answers p s ≡ 0
     unfolding run_refusal
-    not-refused k b = sym (if-false (not (sound t)) 34 _ h ∙ if-false (too_short t answers) 35 _ k ∙ if-false (bad_cursor t l p s) 36 _ b)
+    not-refused k b = if-false (not (sound t)) 34 _ h ∙ if-false (too_short t answers) 35 _ k ∙ if-false (bad_cursor t l p s) 36 _ b

@@ -1,50 +1,58 @@
 -- What the tests of a record come to: refused with a number, accepted with nothing to do, or accepted with work.
-use Rattle.std.specs.Prelude.{ℕ, ◌+◌, ◌*◌, ◌≤◌, ◌≡◌, Bool, ◌&&◌, ◌||◌, List, ltb, eqb, ℤ, pos, length, get_or, Float, if◌then◌else◌}
+use Rattle.std.specs.Prelude.{ℕ, ◌<◌, ◌+◌, ◌*◌, ◌≤◌, ◌≡◌, Bool, ◌||◌, List, ltb, eqb, ℤ, length, Float, if◌then◌else◌}
 use Rattle.std.proofs.Math.Option.{Option, none, some}
 use Rattle.definitions.specs.Call.{extent}
 use Rattle.definitions.specs.Check.{nat, negative, call_of, checked}
 use Rattle.definitions.specs.Machine.{Act, refuse}
-use Rattle.definitions.specs.Sheet.{Sheet, Arrays, A, B, index, field, bad_arrays, bad_offsets, args_of, accepted}
+use Rattle.definitions.specs.Sheet.{Sheet, Arrays, A, B, index, field, output, bad_arrays, bad_offsets, args_of, accepted}
 use Rattle.definitions.specs.declared.Routine.{Routine}
-use Rattle.definitions.specs.declared.Routine.TheVariants.{Gemm, Symm, Syrk, Syr2k, Trmm, Trsm}
 use Rattle.definitions.specs.declared.Call.{Call}
 use Rattle.definitions.specs.declared.Checked.{Checked}
 use Rattle.definitions.specs.declared.Checked.TheVariants.{Refused, Idle, Ready}
 use Rattle.definitions.proofs.Records.{reads}
+use Rattle.records.specs.declared.Sheet.{Sheet as Words}
+use Rattle.records.specs.declared.Arrays.{Arrays as Lent}
+use Rattle.records.specs.declared.Lengths.{Lengths}
 use Rattle.records.specs.declared.Part.{Part}
+use Rattle.records.specs.declared.Matrices.{Matrices}
 use Rattle.records.specs.declared.Judged.{Judged}
 use Rattle.records.specs.declared.Judged.TheVariants.{Rejected, NoWork, Work}
 
 abbrev pub sheet_of : List ℤ → List Float → Sheet
 sheet_of words scalars = record { words = words; scalars = scalars }
 
+abbrev pub sheet_in : Words → Sheet
+sheet_in t = sheet_of t.words.now t.scalars.now
+
 abbrev pub arrays_of : List Float → List Float → List Float → Arrays
 arrays_of x y z = record { x = x; y = y; z = z }
 
--- Record p begins at word `at`, and the sheet has all of it.
+abbrev pub arrays_in : Lent → Arrays
+arrays_in l = arrays_of l.x.now l.y.now l.z.now
+
+-- Record p begins at word `at`, and the sheet has all of it, and its scalars.
 abbrev pub At : Sheet → ℕ → ℕ → Type 0
-At t p at = (at ≡ nat (index t) + 20 * p) × (at + 20 ≤ length t.words)
+At t p at = (at ≡ nat (index t) + 20 * p) × (at + 20 ≤ length t.words) × (2 * p + 1 < length t.scalars)
+
+abbrev pub lengths_of : Arrays → Lengths
+lengths_of l = record { x = length l.x; y = length l.y; z = length l.z }
 
 -- The lengths of the arrays X, Y, Z by their numbers.
-unfoldable pub sizes : ℕ → ℕ → ℕ → ℕ → ℕ
-sizes lx ly lz n = if eqb n 0 then lx else if eqb n 1 then ly else lz
+unfoldable pub sizes : Lengths → ℕ → ℕ
+sizes l n = if eqb n 0 then l.x else if eqb n 1 then l.y else l.z
 
--- ---- the routine
-
-unfoldable pub known : ℤ → Bool
-known code = ltb 0 (nat code) && ltb (nat code) 7
-
-unfoldable pub routine_at : ℕ → Routine
-routine_at n =
-    if eqb n 1 then Gemm else if eqb n 2 then Symm else if eqb n 3 then Syrk else if eqb n 4 then Syr2k else if eqb n 5 then Trmm else Trsm
+-- ---- the matrices
 
 -- The matrix that is lent as B: A again in a routine that reads no other matrix.
 unfoldable pub second : Routine → ℕ
 second f = if reads f B then B else A
 
--- The matrix whose array number is word q of the record that begins at word `at`.
-unfoldable pub part_at : List ℤ → ℕ → ℕ → Part
-part_at words at q = record { array = nat (get_or words (at + q) (pos 0)); offset = nat (get_or words (at + (q + 1)) (pos 0)) }
+-- The matrix of record p whose array number is word q.
+unfoldable pub part_at : Sheet → ℕ → ℕ → Part
+part_at t p q = record { array = nat (field t p q); offset = nat (field t p (q + 1)) }
+
+unfoldable pub matrices_of : Sheet → ℕ → Routine → Matrices
+matrices_of t p f = record { out = part_at t p (output f); a = part_at t p A; b = part_at t p (second f) }
 
 -- ---- the tests 32 and 33, of the output, of A and of the matrix lent as B
 

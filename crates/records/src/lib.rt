@@ -1,12 +1,12 @@
 // A call sheet: the words of its records, their tests, 31, 32, 33 and those of a direct call, and the tests of a run, 34, 35 and 36.
 #![tactic(auto)]
 
-ghost use Rattle.std.specs.Prelude.{◌≡◌, not, ◌||◌, List, ℕ, ◌+◌, ◌*◌, ◌-◌, ◌^◌, ◌≤◌, ◌<◌, ltb, pos, Float, length, get_or};
+ghost use Rattle.std.specs.Prelude.{◌≡◌, true, not, ◌+◌, ◌*◌, ◌^◌, ◌≤◌, ◌<◌, pos, length, get_or, MatchOption};
+ghost use Rattle.std.proofs.Math.Option.{none, some};
 ghost use Rattle.definitions.specs.Check as Check;
 ghost use Rattle.definitions.specs.Machine as Machine;
 ghost use Rattle.definitions.specs.Run as Run;
-ghost use Rattle.definitions.specs.Sheet as Sheet;
-ghost use Rattle.definitions.specs.Sheet.{Sheet as SheetOf};
+ghost use Rattle.definitions.specs.Sheet as Sheets;
 ghost use Rattle.records.specs.Judgement as Judgement;
 
 use definitions::{Args, Call, Checked, Routine, Scalar};
@@ -19,6 +19,38 @@ pub enum Judged {
     Work(Call),
 }
 
+// A sheet: its words, and the scalars of its records.
+#[derive(Clone, Copy)]
+pub struct Sheet<'a> {
+    pub words: &'a [i32],
+    pub scalars: &'a [f64],
+}
+
+// Record p of a sheet, which begins at word `at`.
+#[derive(Clone, Copy)]
+pub struct Record<'a> {
+    pub sheet: Sheet<'a>,
+    pub p: usize,
+    pub at: usize,
+    ghost placed: { Judgement.At (Judgement.sheet_in sheet) p at },
+}
+
+// The lent arrays.
+#[derive(Clone, Copy)]
+pub struct Arrays<'a> {
+    pub x: &'a [f64],
+    pub y: &'a [f64],
+    pub z: &'a [f64],
+}
+
+// Their lengths.
+#[derive(Clone, Copy)]
+struct Lengths {
+    x: usize,
+    y: usize,
+    z: usize,
+}
+
 // A matrix of a record: the number of its array, and the offset of its first element.
 #[derive(Clone, Copy)]
 pub struct Part {
@@ -26,98 +58,125 @@ pub struct Part {
     pub offset: usize,
 }
 
-// Word q of the record that begins at word `at`.
-pub fn word(sheet: &[i32], at: usize, q: usize) -> i32
-    requires { at + q < length sheet.now }
-    ensures { result ≡ get_or sheet.now (at + q) (pos 0) }
-{
-    sheet[at + q]
+// The matrices of a record that are lent: the one that its routine writes, A, and A again or B.
+#[derive(Clone, Copy)]
+pub struct Matrices {
+    pub out: Part,
+    pub a: Part,
+    pub b: Part,
+}
+
+// ---- words and matrices
+
+impl Record<'_> {
+    // Word q of the record.
+    fn word(self, q: usize) -> i32
+        requires { q < 20 }
+        ensures { result ≡ Sheets.field (Judgement.sheet_in self.entry.sheet) self.entry.p q }
+    {
+        self.sheet.words[self.at + q]
+    }
+
+    // The matrix whose array number is word q.
+    fn part(self, q: usize) -> Part
+        requires { q < 19 }
+        ensures { result ≡ Judgement.part_at (Judgement.sheet_in self.entry.sheet) self.entry.p q }
+    {
+        let array = arguments::size(self.word(q)) as usize;
+        let offset = arguments::size(self.word(q + 1)) as usize;
+        Part { array, offset }
+    }
+
+    // Its matrices, if the routine is its own.
+    pub fn matrices(self, routine: Routine) -> Matrices
+        ensures { result ≡ Judgement.matrices_of (Judgement.sheet_in self.entry.sheet) self.entry.p routine }
+    {
+        Matrices {
+            out: self.part(output(routine)),
+            a: self.part(9),
+            b: self.part(second(routine)),
+        }
+    }
+
+    // The width of its strips.
+    pub fn width(self) -> usize
+        ensures { result ≡ Sheets.width_of (Judgement.sheet_in self.entry.sheet) self.entry.p }
+    {
+        arguments::width(self.word(18))
+    }
+
+    // The size of its blocks.
+    pub fn block(self) -> usize
+        ensures { result ≡ Check.width (Sheets.field (Judgement.sheet_in self.entry.sheet) self.entry.p 19) }
+    {
+        arguments::width(self.word(19))
+    }
+}
+
+impl<'a> Arrays<'a> {
+    // Array n.
+    pub fn array(self, n: usize) -> &'a [f64]
+        ensures { result.now ≡ Sheets.array (Judgement.arrays_in self.entry) n }
+    {
+        match n {
+            0 => self.x,
+            1 => self.y,
+            _ => self.z,
+        }
+    }
+}
+
+impl Lengths {
+    // The length of array n.
+    fn of(self, n: usize) -> usize
+        ensures { result ≡ Judgement.sizes self n }
+    {
+        match n {
+            0 => self.x,
+            1 => self.y,
+            _ => self.z,
+        }
+    }
 }
 
 // ---- the routine
 
-fn known(code: i32) -> bool
-    ensures { result ≡ Judgement.known code }
+// The routine with that number, if there is one.
+fn routine_of(code: i32) -> Option<Routine>
+    ensures { MatchOption result (Sheets.routine_of code ≡ none) (λ f. Sheets.routine_of code ≡ some f) }
 {
-    let n = arguments::size(code);
-    (0 < n) & (n < 7)
-}
-
-fn routine(n: u32) -> Routine
-    ensures { result ≡ Judgement.routine_at n }
-{
-    if n == 1 {
-        return Routine::Gemm;
+    match arguments::size(code) {
+        1 => Some(Routine::Gemm),
+        2 => Some(Routine::Symm),
+        3 => Some(Routine::Syrk),
+        4 => Some(Routine::Syr2k),
+        5 => Some(Routine::Trmm),
+        6 => Some(Routine::Trsm),
+        _ => None,
     }
-    if n == 2 {
-        return Routine::Symm;
-    }
-    if n == 3 {
-        return Routine::Syrk;
-    }
-    if n == 4 {
-        return Routine::Syr2k;
-    }
-    if n == 5 {
-        return Routine::Trmm;
-    }
-    Routine::Trsm
 }
 
 // The word of the array number of the matrix that the routine writes: C, or B for TRMM and TRSM.
-pub fn output(routine: Routine) -> usize
-    ensures { (result ≡ Sheet.output routine) × (result ≤ 15) }
+fn output(routine: Routine) -> usize
+    ensures { (result ≡ Sheets.output routine) × (result ≤ 15) }
 {
     match routine {
-        Routine::Gemm => 15,
-        Routine::Symm => 15,
-        Routine::Syrk => 15,
-        Routine::Syr2k => 15,
-        Routine::Trmm => 12,
-        Routine::Trsm => 12,
+        Routine::Gemm | Routine::Symm | Routine::Syrk | Routine::Syr2k => 15,
+        Routine::Trmm | Routine::Trsm => 12,
     }
 }
 
 // The word of the array number of the matrix that is lent as B: A again in a routine that reads no other matrix.
-pub fn second(routine: Routine) -> usize
+fn second(routine: Routine) -> usize
     ensures { (result ≡ Judgement.second routine) × (result ≤ 15) }
 {
     match routine {
-        Routine::Gemm => 12,
-        Routine::Symm => 12,
-        Routine::Syrk => 9,
-        Routine::Syr2k => 12,
-        Routine::Trmm => 9,
-        Routine::Trsm => 9,
-    }
-}
-
-// The matrix whose array number is word q.
-pub fn part_at(sheet: &[i32], at: usize, q: usize) -> Part
-    requires { at + q + 1 < length sheet.now }
-    ensures { result ≡ Judgement.part_at sheet.now at q }
-{
-    let array = arguments::size(word(sheet, at, q)) as usize;
-    let offset = arguments::size(word(sheet, at, q + 1)) as usize;
-    Part {
-        array: array,
-        offset: offset,
+        Routine::Gemm | Routine::Symm | Routine::Syr2k => 12,
+        Routine::Trmm | Routine::Trsm | Routine::Syrk => 9,
     }
 }
 
 // ---- the tests 32 and 33
-
-fn length_of(n: u32, lx: usize, ly: usize, lz: usize) -> usize
-    ensures { result ≡ Judgement.sizes lx ly lz n }
-{
-    if n == 0 {
-        return lx;
-    }
-    if n == 1 {
-        return ly;
-    }
-    lz
-}
 
 // Not the number of a lent array.
 fn bad_number(number: i32) -> bool
@@ -136,89 +195,16 @@ fn bad_numbers(out: i32, a: i32, b: i32) -> bool
 }
 
 // Negative, or above the array's length.
-fn bad_offset(number: i32, offset: i32, lx: usize, ly: usize, lz: usize) -> bool
-    ensures { result ≡ Judgement.bad_offset (Judgement.sizes lx ly lz) number offset }
+fn bad_offset(number: i32, offset: i32, lengths: Lengths) -> bool
+    ensures { result ≡ Judgement.bad_offset (Judgement.sizes lengths) number offset }
 {
-    let length = length_of(arguments::size(number), lx, ly, lz);
+    let length = lengths.of(arguments::size(number) as usize);
     arguments::negative(offset) | (length < arguments::size(offset) as usize)
-}
-
-fn bad_arrays(sheet: &[i32], at: usize, routine: Routine) -> bool
-    requires { at + 20 ≤ length sheet.now }
-    ensures { (t : SheetOf) (p : ℕ) → t.words ≡ sheet.now → Judgement.At t p at → result ≡ Sheet.bad_arrays t p routine }
-{
-    let out = word(sheet, at, output(routine));
-    let a = word(sheet, at, 9);
-    let b = word(sheet, at, second(routine));
-    bad_numbers(out, a, b)
-}
-
-fn bad_offsets(sheet: &[i32], at: usize, routine: Routine, lx: usize, ly: usize, lz: usize) -> bool
-    requires { at + 20 ≤ length sheet.now }
-    ensures { (t : SheetOf) (p : ℕ) → t.words ≡ sheet.now → Judgement.At t p at → result ≡ Sheet.bad_offsets t p routine (Judgement.sizes lx ly lz) }
-{
-    let o = output(routine);
-    let s = second(routine);
-    let out = bad_offset(word(sheet, at, o), word(sheet, at, o + 1), lx, ly, lz);
-    let a = bad_offset(word(sheet, at, 9), word(sheet, at, 10), lx, ly, lz);
-    let b = bad_offset(word(sheet, at, s), word(sheet, at, s + 1), lx, ly, lz);
-    out | (a | b)
-}
-
-// ---- the arguments of the record's call
-
-// The length of the matrix whose array number is word q: that of its array from the offset on.
-fn part_length(sheet: &[i32], at: usize, q: usize, lx: usize, ly: usize, lz: usize) -> usize
-    requires { at + q + 1 < length sheet.now }
-    ensures { result ≡ Judgement.sizes lx ly lz (Check.nat (get_or sheet.now (at + q) (pos 0))) - Check.nat (get_or sheet.now (at + (q + 1)) (pos 0)) }
-{
-    let length = length_of(arguments::size(word(sheet, at, q)), lx, ly, lz);
-    let offset = arguments::size(word(sheet, at, q + 1)) as usize;
-    if length < offset { 0 } else { length - offset }
-}
-
-fn args_of(
-    sheet: &[i32],
-    at: usize,
-    routine: Routine,
-    alpha: f64,
-    beta: f64,
-    lx: usize,
-    ly: usize,
-    lz: usize,
-) -> Args
-    requires { at + 20 ≤ length sheet.now }
-    ensures { ((t : SheetOf) (p : ℕ) → t.words ≡ sheet.now → Judgement.At t p at → alpha ≡ Sheet.alpha_of t p → beta ≡ Sheet.beta_of t p
-        → result ≡ Sheet.args_of t p routine (Judgement.sizes lx ly lz)) × (Check.nat result.m < 2 ^ 31) × (Check.nat result.n < 2 ^ 31) }
-{
-    let first = Scalar::of(alpha);
-    let then = Scalar::of(beta);
-    let lena = part_length(sheet, at, 9, lx, ly, lz);
-    let lenb = part_length(sheet, at, 12, lx, ly, lz);
-    let lenc = part_length(sheet, at, 15, lx, ly, lz);
-    Args {
-        routine: routine,
-        side: word(sheet, at, 1),
-        uplo: word(sheet, at, 2),
-        transa: word(sheet, at, 3),
-        transb: word(sheet, at, 4),
-        diag: word(sheet, at, 5),
-        m: word(sheet, at, 6),
-        n: word(sheet, at, 7),
-        k: word(sheet, at, 8),
-        alpha: first,
-        beta: then,
-        lda: word(sheet, at, 11),
-        ldb: word(sheet, at, 14),
-        ldc: word(sheet, at, 17),
-        lena: lena,
-        lenb: lenb,
-        lenc: lenc,
-    }
 }
 
 // ---- all tests
 
+// What the answer of the direct call's check comes to.
 fn settled(answer: Checked, call: Call) -> Judged
     ensures { result ≡ Judgement.settled answer call }
 {
@@ -229,155 +215,199 @@ fn settled(answer: Checked, call: Call) -> Judged
     }
 }
 
-// The tests of record p, which begins at word `at`.
-pub fn judge(
-    sheet: &[i32],
-    scalars: &[f64],
-    at: usize,
-    p: usize,
-    lx: usize,
-    ly: usize,
-    lz: usize,
-) -> Judged
-    requires { Judgement.At (Judgement.sheet_of sheet.now scalars.now) p at × (2 * p + 1 < length scalars.now) }
-    ensures { (result ≡ Judgement.judged (Judgement.sheet_of sheet.now scalars.now) p (Judgement.sizes lx ly lz)
-        (Sheet.routine_of (Sheet.field (Judgement.sheet_of sheet.now scalars.now) p 0))) × (Judgement.extent_of result < 2 ^ 31) }
-{
-    let code = word(sheet, at, 0);
-    if !known(code) {
-        return Judged::Rejected(31);
+impl Record<'_> {
+    // 32: a number of an array is bad.
+    fn bad_arrays(self, routine: Routine) -> bool
+        ensures { result ≡ Sheets.bad_arrays (Judgement.sheet_in self.entry.sheet) self.entry.p routine }
+    {
+        let out = self.word(output(routine));
+        let a = self.word(9);
+        let b = self.word(second(routine));
+        bad_numbers(out, a, b)
     }
-    let f = routine(arguments::size(code));
-    if bad_arrays(sheet, at, f) {
-        return Judged::Rejected(32);
+
+    // 33: an offset is bad.
+    fn bad_offsets(self, routine: Routine, lengths: Lengths) -> bool
+        ensures { result ≡ Sheets.bad_offsets (Judgement.sheet_in self.entry.sheet) self.entry.p routine (Judgement.sizes lengths) }
+    {
+        let o = output(routine);
+        let s = second(routine);
+        let out = bad_offset(self.word(o), self.word(o + 1), lengths);
+        let a = bad_offset(self.word(9), self.word(10), lengths);
+        let b = bad_offset(self.word(s), self.word(s + 1), lengths);
+        out | (a | b)
     }
-    if bad_offsets(sheet, at, f, lx, ly, lz) {
-        return Judged::Rejected(33);
+
+    // The length of the matrix whose array number is word q: that of its array from the offset on.
+    fn part_length(self, q: usize, lengths: Lengths) -> usize
+        requires { q < 19 }
+        ensures { result ≡ Sheets.part_length (Judgement.sheet_in self.entry.sheet) self.entry.p q (Judgement.sizes lengths) }
+    {
+        let part = self.part(q);
+        lengths.of(part.array).saturating_sub(part.offset)
     }
-    let g = args_of(sheet, at, f, scalars[2 * p], scalars[2 * p + 1], lx, ly, lz);
-    let answer = arguments::check(word(sheet, at, 18), word(sheet, at, 19), g);
-    settled(answer, arguments::call_of(g))
+
+    // The arguments of its call.
+    fn args_of(self, routine: Routine, lengths: Lengths) -> Args
+        ensures { (result ≡ Sheets.args_of (Judgement.sheet_in self.entry.sheet) self.entry.p routine
+            (Judgement.sizes lengths)) × (Check.nat result.m < 2 ^ 31) × (Check.nat result.n < 2 ^ 31) }
+    {
+        let alpha = Scalar::of(self.sheet.scalars[2 * self.p]);
+        let beta = Scalar::of(self.sheet.scalars[2 * self.p + 1]);
+        let lena = self.part_length(9, lengths);
+        let lenb = self.part_length(12, lengths);
+        let lenc = self.part_length(15, lengths);
+        Args {
+            routine,
+            side: self.word(1),
+            uplo: self.word(2),
+            transa: self.word(3),
+            transb: self.word(4),
+            diag: self.word(5),
+            m: self.word(6),
+            n: self.word(7),
+            k: self.word(8),
+            alpha,
+            beta,
+            lda: self.word(11),
+            ldb: self.word(14),
+            ldc: self.word(17),
+            lena,
+            lenb,
+            lenc,
+        }
+    }
+
+    // All tests of the record.
+    pub fn judge(self, arrays: Arrays) -> Judged
+        ensures { let t = Judgement.sheet_in self.entry.sheet in let size = Judgement.sizes (Judgement.lengths_of (Judgement.arrays_in arrays.entry)) in
+            (result ≡ Judgement.judged t self.entry.p size (Sheets.routine_of (Sheets.field t self.entry.p 0)))
+            × (Judgement.extent_of result < 2 ^ 31) }
+    {
+        let Some(f) = routine_of(self.word(0)) else {
+            return Judged::Rejected(31);
+        };
+        let lengths = Lengths {
+            x: arrays.x.len(),
+            y: arrays.y.len(),
+            z: arrays.z.len(),
+        };
+        if self.bad_arrays(f) {
+            return Judged::Rejected(32);
+        }
+        if self.bad_offsets(f, lengths) {
+            return Judged::Rejected(33);
+        }
+        let g = self.args_of(f, lengths);
+        let answer = arguments::check(self.word(18), self.word(19), g);
+        settled(answer, arguments::call_of(g))
+    }
+
+    // The number of its strips, 0 if it is refused.
+    fn strips_of(self, arrays: Arrays) -> usize
+        ensures { result ≡ Machine.strips_of (Sheets.act (Judgement.sheet_in self.entry.sheet) self.entry.p (Judgement.arrays_in arrays.entry)) }
+    {
+        match self.judge(arrays) {
+            Judged::Rejected(_) => 0,
+            Judged::NoWork(call) | Judged::Work(call) => arguments::strips(self.width(), call),
+        }
+    }
 }
 
 // ---- the tests of a run
 
 // A word of the sheet as a size.
-pub fn size_at(sheet: &[i32], at: usize) -> usize
-    requires { at < length sheet.now }
-    ensures { (result ≡ Check.nat (get_or sheet.now at (pos 0))) × (result < 2 ^ 31) }
+fn size_at(words: &[i32], at: usize) -> usize
+    requires { at < length words.now }
+    ensures { (result ≡ Check.nat (get_or words.now at (pos 0))) × (result < 2 ^ 31) }
 {
-    arguments::size(sheet[at]) as usize
+    arguments::size(words[at]) as usize
 }
 
-// 34: the trailer is bad.
-fn bad_trailer(sheet: &[i32]) -> bool
-    ensures { (scalars : List Float) → result ≡ not (Sheet.sound (Judgement.sheet_of sheet.now scalars)) }
-{
-    let length = sheet.len();
-    if length < 2 {
-        return true;
+impl Sheet<'_> {
+    // The first word of record 0.
+    pub fn index(self) -> usize
+        requires { 2 ≤ length self.words.now }
+        ensures { (result ≡ Check.nat (Sheets.index (Judgement.sheet_in self.entry))) × (result < 2 ^ 31) }
+    {
+        size_at(self.words, self.words.len() - 2)
     }
-    let index = size_at(sheet, length - 2);
-    let count = size_at(sheet, length - 1);
-    let end = index + 20 * count;
-    let negative = arguments::negative(sheet[length - 2]);
-    let minus = arguments::negative(sheet[length - 1]);
-    negative | (minus | (end != length - 2))
-}
 
-// 35: answers or scalars are too few.
-fn too_short(count: usize, answers: usize, scalars: usize) -> bool
-    requires { count < 2 ^ 31 }
-    ensures { result ≡ (ltb answers count || ltb scalars (2 * count)) }
-{
-    (answers < count) | (scalars < 2 * count)
-}
+    // How many records there are.
+    pub fn count(self) -> usize
+        requires { 2 ≤ length self.words.now }
+        ensures { (result ≡ Sheets.records (Judgement.sheet_in self.entry)) × (result < 2 ^ 31) }
+    {
+        size_at(self.words, self.words.len() - 1)
+    }
 
-// The number of strips of record p, 0 if it is refused.
-fn strips_of(
-    sheet: &[i32],
-    scalars: &[f64],
-    at: usize,
-    p: usize,
-    x: &[f64],
-    y: &[f64],
-    z: &[f64],
-) -> usize
-    requires { Judgement.At (Judgement.sheet_of sheet.now scalars.now) p at × (2 * p + 1 < length scalars.now) }
-    ensures { result ≡ Machine.strips_of (Sheet.act (Judgement.sheet_of sheet.now scalars.now) p (Judgement.arrays_of x.now y.now z.now)) }
-{
-    let v = judge(sheet, scalars, at, p, x.len(), y.len(), z.len());
-    match v {
-        Judged::Rejected(_) => 0,
-        Judged::NoWork(call) => {
-            let w = arguments::width(word(sheet, at, 18));
-            arguments::strips(w, call)
+    // 34: the trailer is bad.
+    fn bad_trailer(self) -> bool
+        ensures { result ≡ not (Sheets.sound (Judgement.sheet_in self.entry)) }
+    {
+        let length = self.words.len();
+        if length < 2 {
+            return true;
         }
-        Judged::Work(call) => {
-            let w = arguments::width(word(sheet, at, 18));
-            arguments::strips(w, call)
+        let end = self.index() + 20 * self.count();
+        let negative = arguments::negative(self.words[length - 2]);
+        let minus = arguments::negative(self.words[length - 1]);
+        negative | (minus | (end != length - 2))
+    }
+
+    // 35: answers or scalars are too few.
+    fn too_short(self, answers: &[i32]) -> bool
+        requires { 2 ≤ length self.words.now }
+        ensures { result ≡ Run.too_short (Judgement.sheet_in self.entry) answers.now }
+    {
+        let count = self.count();
+        (answers.len() < count) | (self.scalars.len() < 2 * count)
+    }
+
+    // 36: the cursor is neither the first strip of a record, nor the finish, nor a further strip of an accepted record.
+    fn bad_cursor(self, arrays: Arrays, p: i32, s: i32) -> bool
+        requires sound { Sheets.sound (Judgement.sheet_in self) ≡ true }
+        requires scalars { 2 * Sheets.records (Judgement.sheet_in self) ≤ length self.scalars.now }
+        ensures { result ≡ Run.bad_cursor (Judgement.sheet_in self.entry) (Judgement.arrays_in arrays.entry) p s }
+    {
+        let index = self.index();
+        let count = self.count();
+        if arguments::negative(s) {
+            return true;
         }
+        if arguments::negative(p) {
+            return true;
+        }
+        let q = arguments::size(p) as usize;
+        let t = arguments::size(s) as usize;
+        if t == 0 {
+            return count < q;
+        }
+        if count <= q {
+            return true;
+        }
+        let record = Record {
+            sheet: self,
+            p: q,
+            at: index + 20 * q,
+        };
+        record.strips_of(arrays) <= t
     }
-}
 
-// 36: the cursor is neither the first strip of a record, nor the finish, nor a further strip of an accepted record.
-fn bad_cursor(
-    sheet: &[i32],
-    scalars: &[f64],
-    index: usize,
-    count: usize,
-    x: &[f64],
-    y: &[f64],
-    z: &[f64],
-    p: i32,
-    s: i32,
-) -> bool
-    requires index_value { (index ≡ Check.nat (Sheet.index (Judgement.sheet_of sheet.now scalars.now))) × (count ≡ Sheet.records (Judgement.sheet_of sheet.now scalars.now)) }
-    requires count_in_bounds { (index + 20 * count ≤ length sheet.now) × (2 * count ≤ length scalars.now) }
-    ensures { result ≡ Run.bad_cursor (Judgement.sheet_of sheet.now scalars.now) (Judgement.arrays_of x.now y.now z.now) p s }
-{
-    if arguments::negative(s) {
-        return true;
+    // The number of the run's refusal, if it is refused.
+    pub fn refusal(self, arrays: Arrays, answers: &[i32], p: i32, s: i32) -> Option<u32>
+        ensures { let number = Run.run_refusal (Judgement.sheet_in self.entry) (Judgement.arrays_in arrays.entry) answers.now p s in
+            MatchOption result (number ≡ 0) (λ e. (e ≡ number) × (0 < e) × (e ≤ 36)) }
+    {
+        if self.bad_trailer() {
+            return Some(34);
+        }
+        if self.too_short(answers) {
+            return Some(35);
+        }
+        if self.bad_cursor(arrays, p, s) {
+            return Some(36);
+        }
+        None
     }
-    if arguments::negative(p) {
-        return true;
-    }
-    let q = arguments::size(p) as usize;
-    let t = arguments::size(s) as usize;
-    if t == 0 {
-        return count < q;
-    }
-    if count <= q {
-        return true;
-    }
-    strips_of(sheet, scalars, index + 20 * q, q, x, y, z) <= t
-}
-
-// The number of the run's refusal, or 0.
-pub fn refusal(
-    sheet: &[i32],
-    scalars: &[f64],
-    x: &[f64],
-    y: &[f64],
-    z: &[f64],
-    answers: &[i32],
-    p: i32,
-    s: i32,
-) -> u32
-    ensures { result ≡ Run.run_refusal (Judgement.sheet_of sheet.now scalars.now) (Judgement.arrays_of x.now y.now z.now)
-        answers.now p s }
-{
-    if bad_trailer(sheet) {
-        return 34;
-    }
-    let length = sheet.len();
-    let index = size_at(sheet, length - 2);
-    let count = size_at(sheet, length - 1);
-    if too_short(count, answers.len(), scalars.len()) {
-        return 35;
-    }
-    if bad_cursor(sheet, scalars, index, count, x, y, z, p, s) {
-        return 36;
-    }
-    0
 }

@@ -1,18 +1,16 @@
 -- How a run ends: refused, or after the steps that it made.
 -- Assumes nothing.
-use Prim.Native.Nat.{ℕ, ◌*◌, ◌≤◌}
+use Prim.Native.Nat.{ℕ, ◌<◌}
 use mathlib.Core.Path.{◌≡◌, sym, ap, subst, ◌∙◌}
 use mathlib.Core.Bool.{true, false, not}
 use mathlib.Core.List.{List}
 use native.Mathlib.Omega.{arith}
-use lib.Dec.{ltb, eqb}
+use lib.Dec.{eqb}
 use lib.IntN.{ℤ, pos}
-use lib.ListN.{length}
-use borrow.Author.Tests.{not-false, ltb-false, eq-eqb, ne_eqb}
+use borrow.Author.Tests.{not-false, eq-eqb, ne_eqb}
 use Rattle.arrays.specs.Search.{none}
-use Rattle.arrays.proofs.Tests.{or_left, or_right, if-true, if-false, by-test}
+use Rattle.arrays.proofs.Tests.{if-true, if-false, by-test}
 use Rattle.definitions.specs.Check.{nat}
-use Rattle.definitions.specs.Machine.{iterate, made, reported}
 use Rattle.definitions.specs.Sheet.{Sheet, Arrays, sound, records, act}
 use Rattle.definitions.proofs.MachineLaws.{Placed}
 use Rattle.definitions.proofs.Runs.{cursor-placed}
@@ -21,13 +19,6 @@ use Rattle.definitions.specs.Run.{begin, after, steps_made, zero_reported, too_s
 module _ (t : Sheet) (l : Arrays) (answers : List ℤ) (p s : ℤ) where
   abbrev e : ℕ
   e = run_refusal t l answers p s
-
-  pub number_small : e ≤ 36
-  unfolding run_refusal
-  number_small =
-      by-test (not (sound t))
-      (λ h. rw h (omega arith))
-      (λ h. by-test (too_short t answers) (λ k. rw (h, k) (omega arith)) (λ k. by-test (bad_cursor t l p s) (λ b. rw (h, k, b) (omega arith)) (λ b. rw (h, k, b) (omega arith))))
 
   -- what an accepted run satisfies
   pub record Passed : Type 0 where
@@ -50,33 +41,20 @@ module _ (t : Sheet) (l : Arrays) (answers : List ℤ) (p s : ℤ) where
       (λ b. absurd (let q : 36 ≡ 0 = sym (if-true (bad_cursor t l p s) 36 _ b) ∙ z2 in let f : ⊥ = omega arith in f))
       (λ b. record { trailer = not-false (sound t) h; long = k; cursor = b })))
 
-  pub run-refused : (budget n : ℕ) → n ≡ e → (n ≡ 0 → ⊥) → ran n p s 0 none l answers ≡ run t budget l answers p s
+  pub run-refused : (budget n : ℕ) → n ≡ e → 0 < n → ran n p s 0 none l answers ≡ run t budget l answers p s
   unfolding run
-  run-refused budget n en some = ap (λ (k : ℕ). ran k p s 0 none l answers) en ∙ sym (if-false (eqb e 0) _ _ (ne_eqb e 0 (λ z. some (en ∙ z))))
+  run-refused budget n en some = ap (λ (k : ℕ). ran k p s 0 none l answers) en ∙ sym (if-false (eqb e 0) _ _ (ne_eqb e 0 (λ z. omega arith)))
 
-  pub run-goes : (budget n steps : ℕ) (z : ℤ) (l' : Arrays) (answers' : List ℤ) (p' s' : ℕ) (a b : ℤ) → a ≡ pos p' → b ≡ pos s' → e ≡ 0 → n ≡ records t
-      → begin l' answers' p' s' ≡ iterate n (act t) budget (begin l answers (nat p) (nat s)) → steps ≡ made n (act t) budget (begin l answers (nat p) (nat s))
-      → z ≡ reported n (act t) budget (begin l answers (nat p) (nat s)) → ran 0 a b steps z l' answers' ≡ run t budget l answers p s
-  unfolding run after steps_made zero_reported begin
-  run-goes budget n steps z l' answers' p' s' a b ea eb ok en eg es ez =
-      let st = begin l answers (nat p) (nat s) in
-      let here = eg ∙ ap (λ (k : ℕ). iterate k (act t) budget st) en in
-      let many = es ∙ ap (λ (k : ℕ). made k (act t) budget st) en in
-      let found = ez ∙ ap (λ (k : ℕ). reported k (act t) budget st) en in
-      (λ i. ran 0 (ea i) (eb i) steps z l' answers') ∙ (λ i. ran_to (here i) (many i) (found i)) ∙ sym (if-true (eqb e 0) _ _ (eq-eqb e 0 ok))
-
--- what "long enough" means
-pub long-enough : (t : Sheet) (answers : List ℤ) → too_short t answers ≡ false → (records t ≤ length answers) × (2 * records t ≤ length t.scalars)
-unfolding too_short
-long-enough t answers h = (
-  ltb-false _ _ (or_left (ltb (length answers) (records t)) (ltb (length t.scalars) (2 * records t)) h),
-  ltb-false _ _ (or_right (ltb (length answers) (records t)) (ltb (length t.scalars) (2 * records t)) h),
-)
+  pub run-goes : (budget steps : ℕ) (z : ℤ) (l' : Arrays) (answers' : List ℤ) (p' s' : ℕ) (a b : ℤ) → a ≡ pos p' → b ≡ pos s' → e ≡ 0
+      → begin l' answers' p' s' ≡ after t budget (begin l answers (nat p) (nat s)) → steps ≡ steps_made t budget (begin l answers (nat p) (nat s))
+      → z ≡ zero_reported t budget (begin l answers (nat p) (nat s)) → ran 0 a b steps z l' answers' ≡ run t budget l answers p s
+  unfolding run begin
+  run-goes budget steps z l' answers' p' s' a b ea eb ok eg es ez =
+      (λ i. ran 0 (ea i) (eb i) steps z l' answers') ∙ (λ i. ran_to (eg i) (es i) (ez i)) ∙ sym (if-true (eqb e 0) _ _ (eq-eqb e 0 ok))
 
 -- a cursor that is not refused is a sound one
-pub placed_at : (t : Sheet) (l : Arrays) (answers : List ℤ) (p s : ℤ) (n q u : ℕ) → n ≡ records t → q ≡ nat p → u ≡ nat s → bad_cursor t l p s ≡ false
-    → Placed n (act t) (begin l answers q u)
-placed_at t l answers p s n q u en eq eu h =
-    subst (λ (n : ℕ). Placed n (act t) (begin l answers q u)) (sym en)
-    (subst (λ (q : ℕ). Placed (records t) (act t) (begin l answers q u)) (sym eq)
-    (subst (λ (u : ℕ). Placed (records t) (act t) (begin l answers (nat p) u)) (sym eu) (cursor-placed t l answers p s h).2))
+pub placed_at : (t : Sheet) (l : Arrays) (answers : List ℤ) (p s : ℤ) (q u : ℕ) → q ≡ nat p → u ≡ nat s → bad_cursor t l p s ≡ false
+    → Placed (records t) (act t) (begin l answers q u)
+placed_at t l answers p s q u eq eu h =
+    subst (λ (q : ℕ). Placed (records t) (act t) (begin l answers q u)) (sym eq)
+    (subst (λ (u : ℕ). Placed (records t) (act t) (begin l answers (nat p) u)) (sym eu) (cursor-placed t l answers p s h).2)

@@ -1,312 +1,244 @@
 // The sheet runner: at most so many steps of the plain machine, from a cursor on.
 #![tactic(auto)]
 
-ghost use Rattle.std.specs.Prelude.{◌≡◌, Bool, not, ◌++◌, ℕ, ◌+◌, ◌-◌, ◌*◌, ◌^◌, ◌≤◌, ◌<◌, pos, length, take, drop, if◌then◌else◌};
-ghost use Rattle.arrays.specs.Choice.{least};
-ghost use Rattle.arrays.specs.Search as Search;
+ghost use Rattle.std.specs.Prelude.{◌≡◌, Bool, not, ◌++◌, ℕ, ◌+◌, ◌-◌, ◌*◌, ◌^◌, ◌≤◌, ◌<◌, min, false, true, length, take, drop, IfSome};
+ghost use Rattle.std.specs.Bool.{then_some};
 ghost use Rattle.definitions.specs.Call as Calls;
 ghost use Rattle.definitions.specs.Element as Element;
 ghost use Rattle.definitions.specs.Check as Check;
 ghost use Rattle.definitions.specs.Machine as Machine;
-ghost use Rattle.definitions.specs.Sheet as Sheet;
-ghost use Rattle.definitions.specs.Sheet.{Arrays};
+ghost use Rattle.definitions.specs.Sheet as Sheets;
 ghost use Rattle.definitions.specs.Run as Run;
 ghost use Rattle.definitions.proofs.MachineLaws.{Placed};
-ghost use Rattle.strips.specs.Lengths.{FitsArrays};
 ghost use Rattle.records.specs.Judgement as Judgement;
+ghost use Rattle.records.specs.Judgement.{sheet_in, arrays_of};
+ghost use Rattle.strips.specs.Lengths.{FitsArrays};
 ghost use Rattle.sheet.specs.Lent as Lent;
-ghost use Rattle.records.specs.Judgement.{arrays_of};
 
 use definitions::{Call, RunEnd};
-use records::{Judged, Part};
+use records::{Arrays, Judged, Matrices, Record, Sheet};
 
-// Where the machine is after a step, and whether the step was the last strip of a solve with a zero on the diagonal.
+// A record and one of its strips.
 #[derive(Clone, Copy)]
 pub struct Cursor {
     pub p: usize,
     pub s: usize,
-    pub zero: bool,
 }
 
-// Where a run of so many steps ended, and the first record whose solve had a zero on the diagonal, or -1.
+// Where the machine is after a step, and the record, if the step was the last strip of a solve with a zero on the diagonal.
+#[derive(Clone, Copy)]
+pub struct Stepped {
+    pub cursor: Cursor,
+    pub zero: Option<usize>,
+}
+
+// Where a run of so many steps ended, and the first record whose solve had a zero on the diagonal.
 #[derive(Clone, Copy)]
 pub struct Went {
-    pub p: usize,
-    pub s: usize,
+    pub cursor: Cursor,
     pub steps: u32,
-    pub zero: i32,
+    pub zero: Option<usize>,
 }
 
 // ---- one strip
 
-fn pick<'a>(first: bool, x: &'a [f64], y: &'a [f64]) -> &'a [f64]
-    ensures { result.now ≡ (if first then x.now else y.now) }
-{
-    if first { x } else { y }
-}
-
-// The columns, or rows, from `from` on of a call, in blocks of r. The output is its array's part from `off` on; A is in x if `ina`, else in y, from `offa` on; so is B.
-// It hands back what the strip reports.
-fn lend<'a>(
+// The columns, or rows, from `from` on of a call, in blocks of r. The output is its array's part from its offset on; the other two are lent, and its own
+// array is not among them. It hands back what the strip reports.
+fn lend(
     call: Call,
+    m: Matrices,
     out: &mut [f64],
-    off: usize,
-    x: &'a [f64],
-    y: &'a [f64],
-    ina: bool,
-    offa: usize,
-    inb: bool,
-    offb: usize,
+    lent: Arrays,
     from: usize,
     cols: usize,
     r: usize,
 ) -> i32
-    requires off_in_bounds { (off ≤ length out.old) × (offa ≤ length (if ina then x.now else y.now)) × (offb ≤ length (if inb then x.now else y.now)) }
-    requires fits_arrays { FitsArrays call (length (if ina then x.now else y.now) - offa) (length (if inb then x.now else y.now) - offb) (length out.old - off) }
+    requires off_in_bounds { let l = Judgement.arrays_in lent in
+        (m.out.offset ≤ length out.old) × (m.a.offset ≤ length (Sheets.array l m.a.array)) × (m.b.offset ≤ length (Sheets.array l m.b.array)) }
+    requires fits_arrays { let l = Judgement.arrays_in lent in
+        FitsArrays call (length (Sheets.array l m.a.array) - m.a.offset) (length (Sheets.array l m.b.array) - m.b.offset) (length out.old - m.out.offset) }
     requires cols_nonzero { (0 < cols) × (cols ≤ 64) × (from + cols ≤ Calls.extent call) × (0 < r) × (r ≤ 64) }
-    ensures { (out.new ≡ take off out.old ++ Element.strip call (drop offa (if ina then x.now else y.now))
-        (drop offb (if inb then x.now else y.now)) from (from + cols) (drop off out.old))
-        × (result ≡ Element.zero_of call.routine call (drop offa (if ina then x.now else y.now))) }
+    ensures { let l = Judgement.arrays_in lent.entry in
+        (out.new ≡ take m.out.offset out.old ++ Element.strip call (drop m.a.offset (Sheets.array l m.a.array)) (drop m.b.offset (Sheets.array l m.b.array))
+        from (from + cols) (drop m.out.offset out.old)) × (result ≡ Element.zero_of call.routine call (drop m.a.offset (Sheets.array l m.a.array))) }
 {
-    let a = pick(ina, x, y);
-    let b = pick(inb, x, y);
-    strips::strip(call, &a[offa..], &b[offb..], &mut out[off..], from, cols, r)
-}
-
-// The same, on the arrays: the output's is lent for writing, the other two for reading.
-fn put(
-    call: Call,
-    out: Part,
-    a: Part,
-    b: Part,
-    x: &mut [f64],
-    y: &mut [f64],
-    z: &mut [f64],
-    from: usize,
-    cols: usize,
-    r: usize,
-) -> i32
-    requires lends { Lent.Lends call out a b (arrays_of x.old y.old z.old) }
-    requires cols_nonzero { (0 < cols) × (cols ≤ 64) × (from + cols ≤ Calls.extent call) × (0 < r) × (r ≤ 64) }
-    ensures { (arrays_of x.new y.new z.new ≡ Lent.strip_at call out a b from (from + cols) (arrays_of x.old y.old z.old))
-        × (result ≡ Lent.zero_at call a (arrays_of x.old y.old z.old)) }
-{
-    let n = out.array;
-    let off = out.offset;
-    let i = a.array;
-    let offa = a.offset;
-    let j = b.array;
-    let offb = b.offset;
-    if n == 0 {
-        return lend(
-            call,
-            x,
-            off,
-            y,
-            z,
-            i == 1,
-            offa,
-            j == 1,
-            offb,
-            from,
-            cols,
-            r,
-        );
-    }
-    if n == 1 {
-        return lend(
-            call,
-            y,
-            off,
-            x,
-            z,
-            i == 0,
-            offa,
-            j == 0,
-            offb,
-            from,
-            cols,
-            r,
-        );
-    }
-    lend(
+    let a = lent.array(m.a.array);
+    let b = lent.array(m.b.array);
+    strips::strip(
         call,
-        z,
-        off,
-        x,
-        y,
-        i == 0,
-        offa,
-        j == 0,
-        offb,
+        &a[m.a.offset..],
+        &b[m.b.offset..],
+        &mut out[m.out.offset..],
         from,
         cols,
         r,
     )
 }
 
-// Strip s of the record that begins at word `at` and whose call is this one. It hands back whether the call is a solve with a zero on the diagonal.
-fn work(
-    sheet: &[i32],
-    at: usize,
+// The same, on the arrays: the output's is lent for writing, the other two for reading.
+fn put(
     call: Call,
+    m: Matrices,
     x: &mut [f64],
     y: &mut [f64],
     z: &mut [f64],
-    s: usize,
-    w: usize,
+    from: usize,
+    cols: usize,
     r: usize,
-) -> bool
-    requires lends { Lent.Lends call (Judgement.part_at sheet.now at (Sheet.output call.routine)) (Judgement.part_at sheet.now at Sheet.A)
-        (Judgement.part_at sheet.now at (Judgement.second call.routine)) (arrays_of x.old y.old z.old) }
-    requires at_in_bounds { (at + 20 ≤ length sheet.now) × (s * w < Calls.extent call) × (0 < w) × (w ≤ 64) × (0 < r) × (r ≤ 64) }
-    ensures { (arrays_of x.new y.new z.new ≡ Lent.strip_at call (Judgement.part_at sheet.now at (Sheet.output call.routine))
-        (Judgement.part_at sheet.now at Sheet.A) (Judgement.part_at sheet.now at (Judgement.second call.routine))
-        (s * w) (s * w + least w (Calls.extent call - s * w)) (arrays_of x.old y.old z.old))
-        × (result ≡ not (Check.negative (Lent.zero_at call (Judgement.part_at sheet.now at Sheet.A) (arrays_of x.old y.old z.old)))) }
+) -> i32
+    requires lends { Lent.Lends call m (arrays_of x.old y.old z.old) }
+    requires cols_nonzero { (0 < cols) × (cols ≤ 64) × (from + cols ≤ Calls.extent call) × (0 < r) × (r ≤ 64) }
+    ensures { (arrays_of x.new y.new z.new ≡ Lent.strip_at call m from (from + cols) (arrays_of x.old y.old z.old))
+        × (result ≡ Lent.zero_at call m.a (arrays_of x.old y.old z.old)) }
 {
-    let routine = call.routine;
-    let out = records::part_at(sheet, at, records::output(routine));
-    let a = records::part_at(sheet, at, 9);
-    let b = records::part_at(sheet, at, records::second(routine));
+    match m.out.array {
+        0 => lend(call, m, x, Arrays { x: &[], y, z }, from, cols, r),
+        1 => lend(call, m, y, Arrays { x, y: &[], z }, from, cols, r),
+        _ => lend(call, m, z, Arrays { x, y, z: &[] }, from, cols, r),
+    }
+}
+
+// Strip s of a record whose call is this one. It hands back whether the call is a solve with a zero on the diagonal.
+fn work(here: Record, call: Call, x: &mut [f64], y: &mut [f64], z: &mut [f64], s: usize) -> bool
+    requires lends { Lent.Lends call (Judgement.matrices_of (sheet_in here.sheet) here.p call.routine) (arrays_of x.old y.old z.old) }
+    requires width { let w = Sheets.width_of (sheet_in here.sheet) here.p in (0 < w) × (w ≤ 64) × (s * w < Calls.extent call) }
+    requires block { let r = Check.width (Sheets.field (sheet_in here.sheet) here.p 19) in (0 < r) × (r ≤ 64) }
+    ensures { let m = Judgement.matrices_of (sheet_in here.entry.sheet) here.entry.p call.routine in
+        let w = Sheets.width_of (sheet_in here.entry.sheet) here.entry.p in
+        (arrays_of x.new y.new z.new ≡ Lent.strip_at call m (s * w) (s * w + min w (Calls.extent call - s * w)) (arrays_of x.old y.old z.old))
+        × (result ≡ not (Check.negative (Lent.zero_at call m.a (arrays_of x.old y.old z.old)))) }
+{
+    let m = here.matrices(call.routine);
+    let w = here.width();
+    let r = here.block();
     let d = arguments::extent(call);
     let from = s * w;
-    let cols = arrays::smaller(w, d - from);
-    !arguments::negative(put(call, out, a, b, x, y, z, from, cols, r))
+    let cols = w.min(d - from);
+    !arguments::negative(put(call, m, x, y, z, from, cols, r))
 }
 
 // ---- one step
 
-// After strip s of n: to the next one, or, with answer 0, to the next record; then a zero on the diagonal counts.
-fn advance(answers: &mut [i32], p: usize, s: usize, n: usize, zero: bool) -> Cursor
-    requires { (p < length answers.old) × (s < 2 ^ 31) }
-    ensures { ((f : ℕ → Arrays → Arrays) (g : Arrays → Bool) (l m : Arrays) → m ≡ f s l → zero ≡ g l
-        → (Run.begin m answers.new result.p result.s ≡ Machine.perform (Machine.work n f g) (Run.begin l answers.old p s))
-        × (result.zero ≡ Machine.counts (Machine.work n f g) (Run.begin l answers.old p s)))
-        × (0 < result.s → (result.s < n) × (result.s ≡ s + 1)) }
+// After a strip, of n: to the next one, or, with answer 0, to the next record; then a zero on the diagonal counts.
+fn advance(answers: &mut [i32], cursor: Cursor, n: usize, zero: bool) -> Stepped
+    requires { (cursor.p < length answers.old) × (cursor.s < 2 ^ 31) }
+    ensures { ((f : ℕ → Sheets.Arrays → Sheets.Arrays) (g : Sheets.Arrays → Bool) (l m : Sheets.Arrays) → m ≡ f cursor.s l → zero ≡ g l
+        → let st = Run.begin l answers.old cursor.p cursor.s in
+        (Run.begin m answers.new result.cursor.p result.cursor.s ≡ Machine.perform (Machine.work n f g) st)
+        × (result.zero ≡ then_some (Machine.counts (Machine.work n f g) st) cursor.p))
+        × (0 < result.cursor.s → (result.cursor.s < n) × (result.cursor.s ≡ cursor.s + 1)) }
 {
+    let Cursor { p, s } = cursor;
     if s + 1 < n {
-        Cursor {
-            p: p,
-            s: s + 1,
-            zero: false,
+        Stepped {
+            cursor: Cursor { p, s: s + 1 },
+            zero: None,
         }
     } else {
         answers[p] = 0;
-        Cursor {
-            p: p + 1,
-            s: 0,
-            zero: zero,
+        Stepped {
+            cursor: Cursor { p: p + 1, s: 0 },
+            zero: zero.then_some(p),
         }
     }
 }
 
-// One step at record p, which begins at word `at`.
+// One step at a record, from its strip s on.
 fn step(
-    sheet: &[i32],
-    scalars: &[f64],
-    at: usize,
+    here: Record,
     x: &mut [f64],
     y: &mut [f64],
     z: &mut [f64],
     answers: &mut [i32],
-    p: usize,
     s: usize,
-) -> Cursor
-    requires at { Judgement.At (Judgement.sheet_of sheet.now scalars.now) p at × (2 * p + 1 < length scalars.now) × (p < length answers.old) }
-    requires s_bound { (0 < s → s < Machine.strips_of (Sheet.act (Judgement.sheet_of sheet.now scalars.now) p (arrays_of x.old y.old z.old))) × (s < 2 ^ 31) }
-    ensures { (Run.begin (arrays_of x.new y.new z.new) answers.new result.p result.s
-        ≡ Machine.perform (Sheet.act (Judgement.sheet_of sheet.now scalars.now) p (arrays_of x.old y.old z.old))
-        (Run.begin (arrays_of x.old y.old z.old) answers.old p s)) × (result.s < 2 ^ 31)
-        × (result.zero ≡ Machine.counts (Sheet.act (Judgement.sheet_of sheet.now scalars.now) p (arrays_of x.old y.old z.old))
-        (Run.begin (arrays_of x.old y.old z.old) answers.old p s)) }
+) -> Stepped
+    requires answer { here.p < length answers.old }
+    requires s_bound { (0 < s → s < Machine.strips_of (Sheets.act (sheet_in here.sheet) here.p (arrays_of x.old y.old z.old))) × (s < 2 ^ 31) }
+    ensures { let act = Sheets.act (sheet_in here.entry.sheet) here.entry.p (arrays_of x.old y.old z.old) in
+        let st = Run.begin (arrays_of x.old y.old z.old) answers.old here.entry.p s in
+        (Run.begin (arrays_of x.new y.new z.new) answers.new result.cursor.p result.cursor.s ≡ Machine.perform act st)
+        × (result.zero ≡ then_some (Machine.counts act st) here.entry.p) × (result.cursor.s < 2 ^ 31) }
 {
-    let v = records::judge(sheet, scalars, at, p, x.len(), y.len(), z.len());
-    match v {
+    let cursor = Cursor { p: here.p, s };
+    match here.judge(Arrays { x, y, z }) {
         Judged::Rejected(number) => {
-            answers[p] = number as i32;
-            Cursor {
-                p: p + 1,
-                s: 0,
-                zero: false,
+            answers[here.p] = number as i32;
+            Stepped {
+                cursor: Cursor {
+                    p: here.p + 1,
+                    s: 0,
+                },
+                zero: None,
             }
         }
         Judged::NoWork(call) => {
-            let w = arguments::width(records::word(sheet, at, 18));
-            advance(answers, p, s, arguments::strips(w, call), false)
+            let n = arguments::strips(here.width(), call);
+            advance(answers, cursor, n, false)
         }
         Judged::Work(call) => {
-            let w = arguments::width(records::word(sheet, at, 18));
-            let r = arguments::width(records::word(sheet, at, 19));
-            let zero = work(sheet, at, call, x, y, z, s, w, r);
-            advance(answers, p, s, arguments::strips(w, call), zero)
+            let n = arguments::strips(here.width(), call);
+            let zero = work(here, call, x, y, z, s);
+            advance(answers, cursor, n, zero)
         }
     }
 }
 
 // ---- a run
 
-// The report so far or, if it is -1 and record q has a zero, q.
-fn earlier(zero: i32, found: bool, q: usize) -> i32
-    requires { q < 2 ^ 31 }
-    ensures { result ≡ Search.earlier zero (if found then pos q else Search.none) }
-{
-    if !arguments::negative(zero) {
-        return zero;
-    }
-    if found { q as i32 } else { -1 }
-}
-
-// At most so many steps from a sound cursor, over the records that begin at word `index`.
+// At most so many steps from a sound cursor.
 fn go(
-    sheet: &[i32],
-    scalars: &[f64],
-    index: usize,
-    count: usize,
+    sheet: Sheet,
     x: &mut [f64],
     y: &mut [f64],
     z: &mut [f64],
     answers: &mut [i32],
-    p: usize,
-    s: usize,
+    from: Cursor,
     budget: u32,
 ) -> Went
-    requires index_value { (index ≡ Check.nat (Sheet.index (Judgement.sheet_of sheet.now scalars.now))) × (index + 20 * count ≤ length sheet.now)
-        × (2 * count ≤ length scalars.now) × (count ≤ length answers.old) × (count < 2 ^ 31) }
-    requires placed { Placed count (Sheet.act (Judgement.sheet_of sheet.now scalars.now)) (Run.begin (arrays_of x.old y.old z.old) answers.old p s) × (s < 2 ^ 31) }
-    ensures { (Run.begin (arrays_of x.new y.new z.new) answers.new result.p result.s
-        ≡ Machine.iterate count (Sheet.act (Judgement.sheet_of sheet.now scalars.now)) budget
-        (Run.begin (arrays_of x.old y.old z.old) answers.old p s))
-        × (result.steps ≡ Machine.made count (Sheet.act (Judgement.sheet_of sheet.now scalars.now)) budget
-        (Run.begin (arrays_of x.old y.old z.old) answers.old p s))
-        × (result.p ≤ count) × (result.s < 2 ^ 31)
-        × (result.zero ≡ Machine.reported count (Sheet.act (Judgement.sheet_of sheet.now scalars.now)) budget
-        (Run.begin (arrays_of x.old y.old z.old) answers.old p s)) }
+    requires sound { (Sheets.sound (sheet_in sheet) ≡ true) × (Run.too_short (sheet_in sheet) answers.old ≡ false) }
+    requires placed { Placed (Sheets.records (sheet_in sheet)) (Sheets.act (sheet_in sheet)) (Run.begin (arrays_of x.old y.old z.old) answers.old from.p from.s)
+        × (from.s < 2 ^ 31) }
+    ensures { let st = Run.begin (arrays_of x.old y.old z.old) answers.old from.p from.s in
+        (Run.begin (arrays_of x.new y.new z.new) answers.new result.cursor.p result.cursor.s ≡ Run.after (sheet_in sheet.entry) budget st)
+        × (result.steps ≡ Run.steps_made (sheet_in sheet.entry) budget st) × (Lent.report result.zero ≡ Run.zero_reported (sheet_in sheet.entry) budget st)
+        × (result.cursor.p < 2 ^ 31) × (result.cursor.s < 2 ^ 31) × IfSome result.zero (λ q. q < 2 ^ 31) }
 {
-    let mut q = p;
-    let mut t = s;
-    let mut zero = -1;
-    let mut steps: u32 = 0;
-    while steps < budget {
-        if count <= q {
+    let index = sheet.index();
+    let count = sheet.count();
+    let mut cursor = from;
+    let mut zero = None;
+    for steps in 0..budget {
+        if count <= cursor.p {
             return Went {
-                p: q,
-                s: t,
-                steps: steps,
-                zero: zero,
+                cursor,
+                steps,
+                zero,
             };
         }
-        let next = step(sheet, scalars, index + 20 * q, x, y, z, answers, q, t);
-        zero = earlier(zero, next.zero, q);
-        q = next.p;
-        t = next.s;
-        steps += 1;
+        let here = Record {
+            sheet,
+            p: cursor.p,
+            at: index + 20 * cursor.p,
+        };
+        let next = step(here, x, y, z, answers, cursor.s);
+        zero = zero.or(next.zero);
+        cursor = next.cursor;
     }
     Went {
-        p: q,
-        s: t,
-        steps: steps,
-        zero: zero,
+        cursor,
+        steps: budget,
+        zero,
+    }
+}
+
+// A report as a run hands it back: -1 where there is none.
+fn number_of(zero: Option<usize>) -> i32
+    requires { IfSome zero (λ q. q < 2 ^ 31) }
+    ensures { result ≡ Lent.report zero }
+{
+    match zero {
+        Some(q) => q as i32,
+        None => -1,
     }
 }
 
@@ -326,27 +258,29 @@ pub fn run(
     ensures { Lent.ran_of result (arrays_of x.new y.new z.new) answers.new
         ≡ Run.run (Judgement.sheet_of sheet.now scalars.now) budget (arrays_of x.old y.old z.old) answers.old p s }
 {
-    let number = records::refusal(sheet, scalars, x, y, z, answers, p, s);
-    if number != 0 {
+    let sheet = Sheet {
+        words: sheet,
+        scalars,
+    };
+    if let Some(number) = sheet.refusal(Arrays { x, y, z }, answers, p, s) {
         return RunEnd {
             number: number as i32,
-            p: p,
-            s: s,
+            p,
+            s,
             steps: 0,
             zero: -1,
         };
     }
-    let length = sheet.len();
-    let index = records::size_at(sheet, length - 2);
-    let count = records::size_at(sheet, length - 1);
-    let q = arguments::size(p) as usize;
-    let t = arguments::size(s) as usize;
-    let went = go(sheet, scalars, index, count, x, y, z, answers, q, t, budget);
+    let from = Cursor {
+        p: arguments::size(p) as usize,
+        s: arguments::size(s) as usize,
+    };
+    let went = go(sheet, x, y, z, answers, from, budget);
     RunEnd {
         number: 0,
-        p: went.p as i32,
-        s: went.s as i32,
+        p: went.cursor.p as i32,
+        s: went.cursor.s as i32,
         steps: went.steps,
-        zero: went.zero,
+        zero: number_of(went.zero),
     }
 }

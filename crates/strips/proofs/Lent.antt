@@ -16,25 +16,15 @@ use Rattle.arrays.proofs.PartLaws.{tail, tail-length, put-tail}
 use Rattle.definitions.specs.Call.{◌by◌, by_side, in_place, ld_output, cuts_rows, extent}
 use Rattle.definitions.specs.Element.{zero_of, strip, result, StripOf}
 use Rattle.definitions.specs.declared.Routine.{Routine}
-use Rattle.definitions.specs.declared.Routine.TheVariants.{Gemm, Symm, Syrk, Syr2k, Trmm, Trsm}
 use Rattle.definitions.specs.declared.Side.{Side}
 use Rattle.definitions.specs.declared.Side.TheVariants.{Left, Right}
 use Rattle.definitions.specs.declared.Call.{Call}
 use Rattle.definitions.proofs.Fits.{Room, Fits, entry-inside, output-fits}
 use Rattle.definitions.proofs.Strips.{strip-join}
 use Rattle.arguments.specs.Strip.{strip_start}
-use Rattle.strips.specs.Lengths.{FitsArrays, widest}
+use Rattle.strips.specs.Lengths.{FitsArrays}
 
 -- ---- one strip
-
--- a strip of any routine
-pub few-lines : (r : Routine) (n : ℕ) → n ≤ 64 → n ≤ widest r
-few-lines Gemm n h = omega arith
-few-lines Symm n h = omega arith
-few-lines Syrk n h = omega arith
-few-lines Syr2k n h = omega arith
-few-lines Trmm n h = h
-few-lines Trsm n h = h
 
 output-room : (c : Call) (la lb len : ℕ) → FitsArrays c la lb len → Room len (ld_output c) (c.m by c.n)
 output-room c la lb len h =
@@ -118,9 +108,6 @@ unfolding ld_output
 in-place-room c la lb len h e =
     subst (λ (n : ℕ). c.m ≤ n) (if-true (in_place c.routine) c.ldb c.ldc e) (output-fits c la (if in_place c.routine then len else lb) len h).0
 
-pub fits-still : (c : Call) (la lb n m : ℕ) → m ≡ n → FitsArrays c la lb n → FitsArrays c la lb m
-fits-still c la lb n m e h = subst (λ (n : ℕ). FitsArrays c la lb n) (sym e) h
-
 -- there is a strip
 pub some-lines : (c : Call) (la lb len : ℕ) → FitsArrays c la lb len → 0 < extent c
 unfolding extent
@@ -130,11 +117,12 @@ some-lines c la lb len h = go (cuts_rows c.routine c.side)
     go true = h.some-rows
     go false = h.some-columns
 
--- one strip more
-pub strip-next : (c : Call) (a b : List Float) (la lb len from to : ℕ) (l m r : List Float) → FitsArrays c la lb len → from ≤ to
-    → m ≡ strip c a b 0 from l → r ≡ strip c a b from to m → r ≡ strip c a b 0 to l
-strip-next c a b la lb len from to l m r h k em er =
-    er ∙ ap (strip c a b from to) em ∙ strip-join c a b l 0 from (in-place-room c la lb len h) to (omega arith) k
+-- one strip more: from x on, up to y
+pub strip-next : (c : Call) (a b : List Float) (la lb len from to x y : ℕ) (l m r : List Float) → FitsArrays c la lb len → from ≤ to → x ≡ from → y ≡ to
+    → m ≡ strip c a b 0 x l → r ≡ strip c a b from to m → r ≡ strip c a b 0 y l
+strip-next c a b la lb len from to x y l m r h k ex ey em er =
+    er ∙ ap (strip c a b from to) (em ∙ ap (λ (n : ℕ). strip c a b 0 n l) ex) ∙ strip-join c a b l 0 from (in-place-room c la lb len h) to (omega arith) k
+    ∙ ap (λ (n : ℕ). strip c a b 0 n l) (sym ey)
 
 -- strips up to the extent are the call
 pub strips-end : (c : Call) (a b : List Float) (from : ℕ) (l m : List Float) → from ≡ extent c → m ≡ strip c a b 0 from l → m ≡ result c a b l

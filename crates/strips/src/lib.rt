@@ -24,32 +24,17 @@ pub fn strip(
     ensures { (out.new ≡ Element.strip call a.now b.now from (from + lines) out.old)
         × (result ≡ Element.zero_of call.routine call a.now) }
 {
-    let routine = call.routine;
     let x = arguments::strip_start(call, from);
     let part = &mut out[x..];
-    match routine {
-        Routine::Gemm => {
-            gemm::gemm_strip(call, a, b, part, from, lines, r);
-            -1
-        }
-        Routine::Symm => {
-            gemm::symm_strip(call, a, b, part, from, lines, r);
-            -1
-        }
-        Routine::Syrk => {
-            rank_update::syrk_strip(call, a, b, part, from, lines, r);
-            -1
-        }
-        Routine::Syr2k => {
-            rank_update::syr2k_strip(call, a, b, part, from, lines, r);
-            -1
-        }
-        Routine::Trmm => {
-            trmm::trmm_strip(call, a, part, from, lines, r);
-            -1
-        }
-        Routine::Trsm => trsm::trsm_strip(call, a, part, from, lines, r),
+    match call.routine {
+        Routine::Gemm => gemm::gemm_strip(call, a, b, part, from, lines, r),
+        Routine::Symm => gemm::symm_strip(call, a, b, part, from, lines, r),
+        Routine::Syrk => rank_update::syrk_strip(call, a, b, part, from, lines, r),
+        Routine::Syr2k => rank_update::syr2k_strip(call, a, b, part, from, lines, r),
+        Routine::Trmm => trmm::trmm_strip(call, a, part, from, lines, r),
+        Routine::Trsm => return trsm::trsm_strip(call, a, part, from, lines, r),
     }
+    -1
 }
 
 // How many columns, or rows, of a call go through its routine at once: four strips of w where that packs a block of A once for all of them.
@@ -58,12 +43,8 @@ fn at_once(routine: Routine, w: usize) -> usize
     ensures { (0 < result) × (result ≤ widest routine) }
 {
     match routine {
-        Routine::Gemm => 4 * w,
-        Routine::Symm => 4 * w,
-        Routine::Syrk => 4 * w,
-        Routine::Syr2k => 4 * w,
-        Routine::Trmm => w,
-        Routine::Trsm => w,
+        Routine::Gemm | Routine::Symm | Routine::Syrk | Routine::Syr2k => 4 * w,
+        Routine::Trmm | Routine::Trsm => w,
     }
 }
 
@@ -74,14 +55,11 @@ pub fn complete(call: Call, a: &[f64], b: &[f64], out: &mut [f64], w: usize, r: 
     ensures { (out.new ≡ Element.result call a.now b.now out.old) × (result ≡ Element.zero_of call.routine call a.now) }
 {
     let d = arguments::extent(call);
-    let routine = call.routine;
-    let most = at_once(routine, w);
+    let most = at_once(call.routine, w);
     let mut zero = -1;
-    let mut from = 0;
-    while from < d {
-        let lines = arrays::smaller(most, d - from);
+    for from in (0..d).step_by(most) {
+        let lines = most.min(d - from);
         zero = strip(call, a, b, out, from, lines, r);
-        from += lines;
     }
     zero
 }

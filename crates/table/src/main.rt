@@ -1,7 +1,7 @@
 // The table of document 01, through the public calls: for each row its letter, a space, `ok` or `no`, and a line end.
 #![tactic(auto)]
 
-ghost use Rattle.std.specs.Prelude.{◌≡◌, true};
+ghost use Rattle.std.specs.Prelude.{◌≡◌, ◌↔◌, IsTrue};
 
 use definitions::RunEnd;
 use std::io;
@@ -18,32 +18,22 @@ const P: f64 = 9007199254740992.0;
 
 // The same bits, or two NaNs.
 fn same(x: f64, y: f64) -> bool
-    ensures { (result ≡ true → x ≡ y) × (x ≡ y → result ≡ true) }
+    ensures { IsTrue result ↔ x ≡ y }
 {
-    if x != x {
-        return y != y;
+    if x.is_nan() {
+        return y.is_nan();
     }
-    if y != y {
+    if y.is_nan() {
         return false;
     }
-    f64::to_bits(x) == f64::to_bits(y)
+    x.to_bits() == y.to_bits()
 }
 
 // The same values, one by one.
 fn agree(list: &[f64], res: &[f64]) -> bool
-    ensures { (result ≡ true → list.now ≡ res.now) × (list.now ≡ res.now → result ≡ true) }
+    ensures { IsTrue result ↔ list.now ≡ res.now }
 {
-    if list.len() != res.len() {
-        return false;
-    }
-    let mut i = 0;
-    while i < list.len() {
-        if !same(list[i], res[i]) {
-            return false;
-        }
-        i += 1;
-    }
-    true
+    list.len() == res.len() && list.iter().zip(res).all(|(x, y)| same(*x, *y))
 }
 
 // ---- the rows; α = 1, β = 0 unless given
@@ -265,23 +255,25 @@ fn row_m() -> bool {
 
 // ---- printing
 
-fn print(rt: &impl Print, letter: char, ok: bool) -> io::Result<()> {
-    let word = if ok { "ok" } else { "no" };
-    println!(rt; "{letter} {word}")
-}
-
 fn main(rt: HostRuntime) -> io::Result<()> {
-    print(&rt, 'a', row_a())?;
-    print(&rt, 'b', row_b())?;
-    print(&rt, 'c', row_c())?;
-    print(&rt, 'd', row_d())?;
-    print(&rt, 'e', row_e())?;
-    print(&rt, 'f', row_f())?;
-    print(&rt, 'g', row_g())?;
-    print(&rt, 'h', row_h())?;
-    print(&rt, 'i', row_i())?;
-    print(&rt, 'j', row_j())?;
-    print(&rt, 'k', row_k())?;
-    print(&rt, 'l', row_l())?;
-    print(&rt, 'm', row_m())
+    let rows = [
+        ('a', row_a()),
+        ('b', row_b()),
+        ('c', row_c()),
+        ('d', row_d()),
+        ('e', row_e()),
+        ('f', row_f()),
+        ('g', row_g()),
+        ('h', row_h()),
+        ('i', row_i()),
+        ('j', row_j()),
+        ('k', row_k()),
+        ('l', row_l()),
+        ('m', row_m()),
+    ];
+    for (letter, ok) in rows {
+        let word = if ok { "ok" } else { "no" };
+        println!(&rt; "{letter} {word}")?;
+    }
+    Ok(())
 }

@@ -12,7 +12,7 @@ returns c =
     let number = to_z-of_z w32 c.args.number c.ranges.number in
     let offset = to_z-of_z w32 c.args.offset c.ranges.offset in
     simp (
-      c.length_of-length.ensures,
+      c.of-length.ensures,
       c.size.ensures ∙ ap nat number,
       c.negative.ensures ∙ ap negative offset,
       c.size-2.ensures ∙ ap nat offset,

@@ -1,56 +1,59 @@
 -- `put` lends the output's array for writing and the other two for reading.
-use mathlib.Core.Path.{◌≡◌, sym, ap, ◌∙◌}
+use mathlib.Core.Path.{◌≡◌, ◌∙◌}
+use mathlib.Core.List.{[]}
+use native.Mathlib.Omega.{arith}
 use mir.Syntax.{w32}
 use mir.ValLaws.{to_z-of_z}
-use Rattle.definitions.specs.Sheet.{Arrays, array, with_array}
+use Rattle.definitions.specs.Sheet.{with_array}
 use Rattle.records.specs.Judgement.{arrays_of}
-use Rattle.sheet.proofs.Strips.{beside-X, beside-Y, beside-Z, lent_fits, comes_back, report-is}
-use native.Mathlib.Omega.{arith}
+use Rattle.sheet.proofs.Strips.{lent_inside, lent_fits, comes_back, report_is}
 use Rattle.sheet.proofs.put.Goals as goal
-use Rattle.sheet.proofs.put.Goals.{Start}
+use Rattle.sheet.proofs.put.Goals.{In_default}
 
-abbrev arrays : (c : Start) → Arrays
-arrays c =
-    arrays_of c.args.x.now c.args.y.now c.args.z.now
+last : (c : In_default) → c.args.m.out.array ≡ 2
+last c = omega (arith, c.requires.lends.out-array)
 
-pub lend-requires : goal.lend-requires
-unfolding array
-lend-requires c = let h = lent_fits c.args.call c.args.out c.args.a c.args.b (arrays (goal.at.lend-requires c).Start) c.requires.lends _ _ _ (beside-X (arrays (goal.at.lend-requires c).Start) c.args.a.array c.requires.lends.a-array (λ e. c.requires.lends.a-apart (e ∙ sym c.if-n-eq0.true))) (beside-X (arrays (goal.at.lend-requires c).Start) c.args.b.array c.requires.lends.b-array (λ e. c.requires.lends.b-apart (e ∙ sym c.if-n-eq0.true))) (ap (array (arrays (goal.at.lend-requires c).Start)) (sym c.if-n-eq0.true)) in record {
-  off_in_bounds = h.0;
-  fits_arrays = h.1;
-  cols_nonzero = c.requires.cols_nonzero;
-}
+pub lend-requires-clause-off_in_bounds : goal.lend-requires-clause-off_in_bounds
+unfolding with_array
+lend-requires-clause-off_in_bounds c = lent_inside c.args.call c.args.m 0 c.in-0.is (arrays_of [] c.args.y.now c.args.z.now) c.args.x.now c.requires.lends
 
-pub returns-then-n-eq0 : goal.returns-then-n-eq0
-unfolding array with_array
-returns-then-n-eq0 c =
-    let a = beside-X (arrays (goal.at.returns-then-n-eq0 c).Start) c.args.a.array c.requires.lends.a-array (λ e. c.requires.lends.a-apart (e ∙ sym c.if-n-eq0.true)) in
-    (comes_back c.args.call c.args.out c.args.a c.args.b (arrays (goal.at.returns-then-n-eq0 c).Start) c.args.from _ 0 c.if-n-eq0.true _ _ _ a (beside-X (arrays (goal.at.returns-then-n-eq0 c).Start) c.args.b.array c.requires.lends.b-array (λ e. c.requires.lends.b-apart (e ∙ sym c.if-n-eq0.true))) c.lend.ensures.0, to_z-of_z w32 c.lend.result (record { sfits = c.lend.type_inv }) ∙ c.lend.ensures.1 ∙ report-is c.args.call c.args.a (arrays (goal.at.returns-then-n-eq0 c).Start) _ a)
+pub lend-requires-clause-fits_arrays : goal.lend-requires-clause-fits_arrays
+unfolding with_array
+lend-requires-clause-fits_arrays c = lent_fits c.args.call c.args.m 0 c.in-0.is (arrays_of [] c.args.y.now c.args.z.now) c.args.x.now c.requires.lends
 
-pub lend-requires-then-n-eq1 : goal.lend-requires-then-n-eq1
-unfolding array
-lend-requires-then-n-eq1 c = let h = lent_fits c.args.call c.args.out c.args.a c.args.b (arrays (goal.at.lend-requires-then-n-eq1 c).Start) c.requires.lends _ _ _ (beside-Y (arrays (goal.at.lend-requires-then-n-eq1 c).Start) c.args.a.array c.requires.lends.a-array (λ e. c.requires.lends.a-apart (e ∙ sym c.if-n-eq1.true))) (beside-Y (arrays (goal.at.lend-requires-then-n-eq1 c).Start) c.args.b.array c.requires.lends.b-array (λ e. c.requires.lends.b-apart (e ∙ sym c.if-n-eq1.true))) (ap (array (arrays (goal.at.lend-requires-then-n-eq1 c).Start)) (sym c.if-n-eq1.true)) in record {
-  off_in_bounds = h.0;
-  fits_arrays = h.1;
-  cols_nonzero = c.requires.cols_nonzero;
-}
+pub returns-in-0 : goal.returns-in-0
+unfolding with_array
+returns-in-0 c = (
+  comes_back c.args.call c.args.m 0 c.in-0.is (arrays_of [] c.args.y.now c.args.z.now) c.args.x.now c.requires.lends c.args.from _ _ c.lend.ensures.0,
+  to_z-of_z w32 c.lend.result (record { sfits = c.lend.type_inv }) ∙ c.lend.ensures.1 ∙ report_is c.args.call c.args.m 0 c.in-0.is (arrays_of [] c.args.y.now c.args.z.now) c.args.x.now c.requires.lends,
+)
 
-pub returns-then-n-eq1 : goal.returns-then-n-eq1
-unfolding array with_array
-returns-then-n-eq1 c =
-    let a = beside-Y (arrays (goal.at.returns-then-n-eq1 c).Start) c.args.a.array c.requires.lends.a-array (λ e. c.requires.lends.a-apart (e ∙ sym c.if-n-eq1.true)) in
-    (comes_back c.args.call c.args.out c.args.a c.args.b (arrays (goal.at.returns-then-n-eq1 c).Start) c.args.from _ 1 c.if-n-eq1.true _ _ _ a (beside-Y (arrays (goal.at.returns-then-n-eq1 c).Start) c.args.b.array c.requires.lends.b-array (λ e. c.requires.lends.b-apart (e ∙ sym c.if-n-eq1.true))) c.lend-then-n-eq1.ensures.0, to_z-of_z w32 c.lend-then-n-eq1.result (record { sfits = c.lend-then-n-eq1.type_inv }) ∙ c.lend-then-n-eq1.ensures.1 ∙ report-is c.args.call c.args.a (arrays (goal.at.returns-then-n-eq1 c).Start) _ a)
+pub lend-requires-in-1-clause-off_in_bounds : goal.lend-requires-in-1-clause-off_in_bounds
+unfolding with_array
+lend-requires-in-1-clause-off_in_bounds c = lent_inside c.args.call c.args.m 1 c.in-1.is (arrays_of c.args.x.now [] c.args.z.now) c.args.y.now c.requires.lends
 
-pub lend-requires-2 : goal.lend-requires-2
-unfolding array
-lend-requires-2 c = let h = lent_fits c.args.call c.args.out c.args.a c.args.b (arrays (goal.at.lend-requires-2 c).Start) c.requires.lends _ _ _ (beside-Z (arrays (goal.at.lend-requires-2 c).Start) c.args.a.array c.requires.lends.a-array (λ e. c.requires.lends.a-apart (e ∙ sym (let z : c.args.out.array ≡ 2 = omega (arith, c.requires.lends.out-array, c.if-n-eq0.false, c.if-n-eq1.false) in z)))) (beside-Z (arrays (goal.at.lend-requires-2 c).Start) c.args.b.array c.requires.lends.b-array (λ e. c.requires.lends.b-apart (e ∙ sym (let z : c.args.out.array ≡ 2 = omega (arith, c.requires.lends.out-array, c.if-n-eq0.false, c.if-n-eq1.false) in z)))) (ap (array (arrays (goal.at.lend-requires-2 c).Start)) (sym (let z : c.args.out.array ≡ 2 = omega (arith, c.requires.lends.out-array, c.if-n-eq0.false, c.if-n-eq1.false) in z))) in record {
-  off_in_bounds = h.0;
-  fits_arrays = h.1;
-  cols_nonzero = c.requires.cols_nonzero;
-}
+pub lend-requires-in-1-clause-fits_arrays : goal.lend-requires-in-1-clause-fits_arrays
+unfolding with_array
+lend-requires-in-1-clause-fits_arrays c = lent_fits c.args.call c.args.m 1 c.in-1.is (arrays_of c.args.x.now [] c.args.z.now) c.args.y.now c.requires.lends
 
-pub returns : goal.returns
-unfolding array with_array
-returns c =
-    let a = beside-Z (arrays (goal.at.returns c).Start) c.args.a.array c.requires.lends.a-array (λ e. c.requires.lends.a-apart (e ∙ sym (let z : c.args.out.array ≡ 2 = omega (arith, c.requires.lends.out-array, c.if-n-eq0.false, c.if-n-eq1.false) in z))) in
-    (comes_back c.args.call c.args.out c.args.a c.args.b (arrays (goal.at.returns c).Start) c.args.from _ 2 (let z : c.args.out.array ≡ 2 = omega (arith, c.requires.lends.out-array, c.if-n-eq0.false, c.if-n-eq1.false) in z) _ _ _ a (beside-Z (arrays (goal.at.returns c).Start) c.args.b.array c.requires.lends.b-array (λ e. c.requires.lends.b-apart (e ∙ sym (let z : c.args.out.array ≡ 2 = omega (arith, c.requires.lends.out-array, c.if-n-eq0.false, c.if-n-eq1.false) in z)))) c.lend-2.ensures.0, to_z-of_z w32 c.lend-2.result (record { sfits = c.lend-2.type_inv }) ∙ c.lend-2.ensures.1 ∙ report-is c.args.call c.args.a (arrays (goal.at.returns c).Start) _ a)
+pub returns-in-1 : goal.returns-in-1
+unfolding with_array
+returns-in-1 c = (
+  comes_back c.args.call c.args.m 1 c.in-1.is (arrays_of c.args.x.now [] c.args.z.now) c.args.y.now c.requires.lends c.args.from _ _ c.lend-in-1.ensures.0,
+  to_z-of_z w32 c.lend-in-1.result (record { sfits = c.lend-in-1.type_inv }) ∙ c.lend-in-1.ensures.1 ∙ report_is c.args.call c.args.m 1 c.in-1.is (arrays_of c.args.x.now [] c.args.z.now) c.args.y.now c.requires.lends,
+)
+
+pub lend-requires-in_default-clause-off_in_bounds : goal.lend-requires-in_default-clause-off_in_bounds
+unfolding with_array
+lend-requires-in_default-clause-off_in_bounds c = lent_inside c.args.call c.args.m 2 (last (goal.at.lend-requires-in_default-clause-off_in_bounds c).In_default) (arrays_of c.args.x.now c.args.y.now []) c.args.z.now c.requires.lends
+
+pub lend-requires-in_default-clause-fits_arrays : goal.lend-requires-in_default-clause-fits_arrays
+unfolding with_array
+lend-requires-in_default-clause-fits_arrays c = lent_fits c.args.call c.args.m 2 (last (goal.at.lend-requires-in_default-clause-fits_arrays c).In_default) (arrays_of c.args.x.now c.args.y.now []) c.args.z.now c.requires.lends
+
+pub returns-in_default : goal.returns-in_default
+unfolding with_array
+returns-in_default c = (
+  comes_back c.args.call c.args.m 2 (last (goal.at.returns-in_default c).In_default) (arrays_of c.args.x.now c.args.y.now []) c.args.z.now c.requires.lends c.args.from _ _ c.lend-in_default.ensures.0,
+  to_z-of_z w32 c.lend-in_default.result (record { sfits = c.lend-in_default.type_inv }) ∙ c.lend-in_default.ensures.1 ∙ report_is c.args.call c.args.m 2 (last (goal.at.returns-in_default c).In_default) (arrays_of c.args.x.now c.args.y.now []) c.args.z.now c.requires.lends,
+)

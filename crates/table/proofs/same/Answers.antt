@@ -1,27 +1,17 @@
 -- `table::same` tells one value from another, and looks at no NaN's bits.
-use Prim.Native.Nat.{◌*◌}
 use mathlib.Core.Path.{◌≡◌, ◌∙◌, refl, sym, ap, subst}
-use mathlib.Core.Bool.{true, false, not, ◌&&◌, true≢false}
+use mathlib.Core.Bool.{true, true≢false}
 use lib.Dec.{T, eqb→eq}
-use lib.Ieee.{Float, nan, inf, fin, up, down, binary64, fits, is_nan, eq, ne, to_bits, of_bits}
+use lib.Ieee.{Float, nan, inf, fin, binary64, fits, is_nan, to_bits, of_bits}
 use lib.Ieee.Bits.{of_bits-to_bits}
 use borrow.Author.Tests.{eq-eqb}
 use Rattle.table.proofs.same.Goals as goal
 
--- Only a NaN differs from itself.
-nan_is : (x : Float) → ne x x ≡ true → x ≡ nan
-unfolding eq ne
+nan_is : (x : Float) → is_nan x ≡ true → x ≡ nan
+unfolding is_nan
 nan_is nan e = refl
-nan_is (inf true) e = absurd (true≢false (sym e))
-nan_is (inf false) e = absurd (true≢false (sym e))
-nan_is (fin true m e) p = absurd (true≢false (sym p ∙ ap (λ b. not (b && true)) (eq-eqb (m * up e * down e) _ refl)))
-nan_is (fin false m e) p = absurd (true≢false (sym p ∙ ap (λ b. not (b && true)) (eq-eqb (m * up e * down e) _ refl)))
-
-number : (x : Float) → ne x x ≡ false → T (not (is_nan x))
-unfolding is_nan eq ne
-number nan e = subst T e tt
-number (inf s) e = tt
-number (fin s m e) p = tt
+nan_is (inf s) e = absurd (true≢false (sym e))
+nan_is (fin s m e) p = absurd (true≢false (sym p))
 
 -- The bits of a value that fits give the value.
 bits-tell : (x y : Float) → fits binary64 x ≡ true → fits binary64 y ≡ true → to_bits binary64 x ≡ to_bits binary64 y → x ≡ y
@@ -29,14 +19,15 @@ bits-tell x y p q e =
     let whole : (v : Float) → fits binary64 v ≡ true → of_bits binary64 (to_bits binary64 v) ≡ v = λ v f. of_bits-to_bits binary64 v (subst T (sym f) tt) in
     sym (whole x p) ∙ ap (of_bits binary64) e ∙ whole y q
 
-pub returns-then-x : goal.returns-then-x
-returns-then-x c = (λ h. nan_is _ c.if-x.true ∙ sym (nan_is _ h), λ e. subst (λ v. ne v v ≡ true) e c.if-x.true)
+pub returns-then-is_nan : goal.returns-then-is_nan
+returns-then-is_nan c =
+    let x = c.if-is_nan.ensures.value in
+    let y = c.is_nan-then-is_nan.ensures.value in
+    (λ h. nan_is _ (sym x) ∙ sym (nan_is _ (sym y ∙ h)), λ e. y ∙ ap is_nan (sym e) ∙ sym x)
 
-pub float_to_bits-result : goal.float_to_bits-result
-float_to_bits-result c = number _ c.if-x.false
-
-pub float_to_bits-result-2 : goal.float_to_bits-result-2
-float_to_bits-result-2 c = number _ c.if-y.false
+pub returns-then-is_nan-2 : goal.returns-then-is_nan-2
+returns-then-is_nan-2 c =
+    (λ h. absurd (true≢false (sym h)), λ e. c.if-is_nan.ensures.value ∙ ap is_nan e ∙ sym c.if-is_nan-2.ensures.value)
 
 pub returns : goal.returns
 returns c =
