@@ -252,8 +252,8 @@ impl Record<'_> {
         ensures { (result ≡ Sheets.args_of (Judgement.sheet_in self.entry.sheet) self.entry.p routine
             (Judgement.sizes lengths)) × (Check.nat result.m < 2 ^ 31) × (Check.nat result.n < 2 ^ 31) }
     {
-        let alpha = Scalar::of(self.sheet.scalars[2 * self.p]);
-        let beta = Scalar::of(self.sheet.scalars[2 * self.p + 1]);
+        let alpha = Scalar::from(self.sheet.scalars[2 * self.p]);
+        let beta = Scalar::from(self.sheet.scalars[2 * self.p + 1]);
         let lena = self.part_length(9, lengths);
         let lenb = self.part_length(12, lengths);
         let lenc = self.part_length(15, lengths);
