@@ -88,11 +88,6 @@ module _ (w r : ℤ) (g : Args) (k : Checked) (answer : k ≡ checked w r g) whe
     meant : Meant a b out (checked w r g) x ys z
     meant = subst (λ (k : Checked). Meant a b out k x ys z) answer h
 
-    -- the number and the array are those of the direct call
-    pub is-done : (x ≡ (done w r g a b out).number) × (ys ≡ (done w r g a b out).array)
-    unfolding done
-    is-done = (meant.0, meant.1)
-
     -- the report is that of the solve
     pub is-solved : (◌≡◌ {A = SolveEnd} (record { number = x; zero = z }) (solved w r g a b out).end) × (ys ≡ (solved w r g a b out).array)
     unfolding done solved

@@ -1,15 +1,14 @@
 -- What is copied, that the panel stands for A, and that each item's arrays have room.
 -- Assumes nothing.
 use mathlib.Core.Logic.{⊎_elim}
-use Prim.Native.Nat.{ℕ, min, ◌-◌, ◌*◌, ◌/◌, ◌%◌, ◌≤◌, ◌<◌}
-use mathlib.Core.Path.{◌≡◌, refl, sym, ap, subst, ◌∙◌}
+use Prim.Native.Nat.{ℕ, min, ◌-◌, ◌*◌, ◌/◌, ◌%◌, ◌<◌}
+use mathlib.Core.Path.{◌≡◌, sym, ap, ◌∙◌}
 use mathlib.Core.Bool.{Bool, true, false, and-true, and-false}
 use mathlib.Core.List.{List, ◌++◌}
 use native.Mathlib.Nat.{le_refl, mul_comm}
 use native.Mathlib.Omega.{arith}
 use lib.Dec.{eqb}
-use lib.ListN.{length, get_or, take, drop, length-append, length-drop, take-append-drop, drop_of_length-le}
-use lib.Seq.{length-take-le}
+use lib.ListN.{length, get_or, take, drop, take-append-drop, drop_of_length-le}
 use lib.Ieee.{Float, nan}
 use borrow.Author.Tests.{eq-eqb}
 use Rattle.arrays.specs.Update.{update, below, entries, region}
@@ -17,7 +16,7 @@ use Rattle.arrays.specs.Fold.{fold}
 use Rattle.arrays.proofs.Tests.{by-test}
 use Rattle.arrays.proofs.FoldLaws.{fold_same, fold-keep}
 use Rattle.arrays.proofs.UpdateLaws.{lt-or-ge, update_same, below_none}
-use Rattle.arrays.proofs.PartLaws.{tail_at, tail-length}
+use Rattle.arrays.proofs.PartLaws.{tail_at}
 use Rattle.arrays.proofs.EntryLaws.{only_same}
 use Rattle.arrays.proofs.RegionLaws.{all-columns}
 use Rattle.floats.specs.Operations.{◌⊕◌, ◌⊗◌}
@@ -33,9 +32,7 @@ use Rattle.definitions.specs.declared.Transpose.TheVariants.{No}
 use Rattle.definitions.specs.declared.Call.{Call}
 use Rattle.definitions.proofs.Strips.{written}
 use Rattle.definitions.proofs.Answers.{idle-keeps}
-use Rattle.strips.specs.Lengths.{FitsArrays}
-use Rattle.strips.proofs.Lent.{length-strip}
-use Rattle.many.specs.Panel.{panel_size, panel_of, over_panel, EachFits, Prepared}
+use Rattle.many.specs.Panel.{panel_size, panel_of, over_panel, Prepared}
 
 -- ---- what is copied
 
@@ -55,20 +52,6 @@ min-rest x l =
     (λ k. let e : min x (length l) ≡ x = omega arith in rw e)
     (λ k. let e : min x (length l) ≡ length l = omega arith in rw e (drop_of_length-le l (le_refl _) ∙ sym (drop_of_length-le l k)))
     (lt-or-ge x (length l))
-
--- the parts that are lent to an item's call
-pub lent_fits : (c : Call) (la fromb fromc x : ℕ) (b out : List Float) → x ≡ min fromb (length b) → FitsArrays c la (length b - fromb) (length out - fromc)
-    → FitsArrays c la (length (take (length b - x) (drop x b))) (length (take (length out - fromc) (drop fromc out)))
-lent_fits c la fromb fromc x b out e h =
-    subst (λ (n : ℕ). FitsArrays c la n (length (take (length out - fromc) (drop fromc out)))) (sym (tail-length x b ∙ omega arith))
-    (subst (λ (n : ℕ). FitsArrays c la (length b - fromb) n) (sym (tail-length fromc out)) h)
-
--- an item keeps the array's length
-pub item-length : (c : Call) (a b : List Float) (x : ℕ) (l m : List Float) → x ≤ length l → m ≡ take x l ++ result c a b (drop x l) → length m ≡ length l
-unfolding result
-item-length c a b x l m h e =
-    ap length e ∙ length-append (take x l) _
-    ∙ omega (arith, length-take-le x l h, length-strip c a b 0 (extent c) (drop x l) _ refl, length-drop x l)
 
 -- ---- the copy
 
@@ -139,10 +122,3 @@ unfolding item result
 items-idle c a b out strideb stridec count h =
     fold-keep _ count out
     (λ i k l. ap (λ (r : List Float). take (i * stridec) l ++ r) (idle-keeps c a _ 0 (extent c) (drop (i * stridec) l) h) ∙ take-append-drop (i * stridec) l)
-
--- the panel as it is handed on
-pub over-fits : (c p : Call) (own : Bool) (a pack panel : List Float) (lenb lenc strideb stridec count : ℕ)
-    → Prepared c own a pack lenb lenc strideb stridec count → p ≡ over_panel c → panel ≡ panel_of c own a pack → EachFits p (length panel) lenb lenc strideb stridec count
-over-fits c p own a pack panel lenb lenc strideb stridec count h ep el =
-    subst (λ (p : Call). EachFits p (length panel) lenb lenc strideb stridec count) (sym ep)
-    (subst (λ (n : ℕ). EachFits (over_panel c) n lenb lenc strideb stridec count) (sym (ap length el ∙ length-take-le (panel_size c) _ h.room)) h.fits)
