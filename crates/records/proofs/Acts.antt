@@ -6,7 +6,6 @@ use Rattle.std.specs.Prelude.{Option, None}
 use Rattle.std.specs.Bool.{then_some}
 use Rattle.std.proofs.Common.{◌⊎◌, ⊎_elim}
 use mathlib.Core.Bool.{Bool, true, false, not}
-use mathlib.Core.Option.{Option as MayBe}
 use mathlib.Core.List.{List, ◌++◌}
 use native.Mathlib.Nat.{mul-le-mul_left, mul-one}
 use native.Mathlib.Numerals.{add-one}
@@ -114,10 +113,10 @@ module _ (t : Sheet) (p : ℕ) (l : Arrays) (v : Judged)
     pub wide : (0 < width_of t p) × (width_of t p ≤ 64)
     pub blocks : (0 < width (field t p 19)) × (width (field t p 19) ≤ 64)
 
-  routine-is : {o : MayBe Routine} (c : Call) (k : Taken t p (lengths l) o c) → k.f ≡ c.routine
+  routine-is : {o : _} (c : Call) (k : Taken t p (lengths l) o c) → k.f ≡ c.routine
   routine-is c k = sym (ap (λ (c : Call). c.routine) k.call-is ∙ record-routine t p (lengths l) k.f)
 
-  known_by : {o : MayBe Routine} (c : Call) → Taken t p (lengths l) o c → Known c
+  known_by : {o : _} (c : Call) → Taken t p (lengths l) o c → Known c
   unfolding width_of
   known_by c k =
       let r = routine-is c k in
