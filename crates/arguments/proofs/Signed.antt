@@ -25,14 +25,6 @@ pub sign : (z : ℤ) → lt_z z (pos 0) ≡ negative z
 sign (pos n) = le-ltb n 0 (omega arith)
 sign (negsuc n) = refl
 
-pub nat-negative : (z : ℤ) → lt_z z (pos 0) ≡ true → 0 ≡ nat z
-nat-negative (pos n) h = let e : false ≡ true = sym (sign (pos n)) ∙ h in cc
-nat-negative (negsuc n) h = refl
-
-pub nat-is : (z : ℤ) → lt_z z (pos 0) ≡ false → nat_abs z ≡ nat z
-nat-is (pos n) h = refl
-nat-is (negsuc n) h = cc
-
 -- What the cast of a number that is not negative asks.
 pub cast_fits : (z : ℤ) → SFits w32 z → lt_z z (pos 0) ≡ false → T (non_neg z) × Fits w32 (nat_abs z)
 cast_fits (pos n) f h = (tt, record { fits = omega arith })

@@ -1,4 +1,3 @@
-pub mod Choice
 pub mod Update
 pub mod Fold
 pub mod Search

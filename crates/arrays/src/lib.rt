@@ -1,11 +1,10 @@
-// Arrays that are updated in place, and folds over the terms of an element: the definitions are in specs/, their laws in proofs/. The code is two choices between
-// indices.
+// Arrays that are updated in place, and folds over the terms of an element: the definitions are in specs/, their laws in proofs/. The code is a choice between
+// indices, and indices in pieces.
 #![tactic(auto)]
 
 pub mod pieces;
 
-ghost use Rattle.std.specs.Prelude.{◌≡◌, ◌≤◌, ◌<◌, if◌then◌else◌};
-ghost use Rattle.arrays.specs.Choice.{least};
+ghost use Rattle.std.specs.Prelude.{◌≡◌, if◌then◌else◌};
 
 // Some rows and columns of a matrix, in an array with this leading dimension.
 #[derive(Clone, Copy)]
@@ -20,11 +19,4 @@ pub fn pick(test: bool, x: usize, y: usize) -> usize
     ensures { result ≡ (if test then x else y) }
 {
     if test { x } else { y }
-}
-
-// The smaller of two numbers.
-pub fn smaller(x: usize, y: usize) -> usize
-    ensures { (result ≤ x) × (result ≤ y) × ((0 < x) → (0 < y) → 0 < result) × (result ≡ least x y) }
-{
-    if x < y { x } else { y }
 }
