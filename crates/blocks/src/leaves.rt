@@ -1,4 +1,5 @@
 // The innermost loops: one term, four or eight for one column, one or four for two neighbouring ones. In u term q, row i stands at q * 64 + i, in t column j, term q at j * 64 + q.
+// (One function for any constant number of terms would say it once, but it took up to twice as long in products of order 8.)
 // A pass is one turn of such a loop, for one row; the loops over one column count theirs and hand back the count.
 ghost use Rattle.std.specs.Prelude.{◌≡◌, ◌+◌, ◌*◌, ◌≤◌, ◌<◌, length};
 ghost use Rattle.arrays.specs.Update.{update, below, region};

@@ -191,18 +191,18 @@ fn singles(
     }
 }
 
-// Element i of each line, four lines at a time.
+// Element i of each line, four lines at a time. A `while`, as in direct::column.
 fn fours(g: Grid, f: Formula, b: &mut [f64], i: usize, a: &[f64], sa: usize, run: Run, count: usize)
     requires { Room g.left g.ld g.m g.lines (length b.old) × (i < g.m) × Indices run.down run.from count × ((k : ℕ) → k < count → (along run.down run.from k < g.m) × (along run.down run.from k * sa < length a.now)) }
     ensures { Summed g.left g.ld g.m g.lines i f.alpha f.start f.end (λ k. at a.now (along run.down run.from k * sa)) (along run.down run.from) count b.old b.new }
 {
     let across = arrays::pick(g.left, g.ld, 1);
-    let quads = g.lines / 4;
-    for q in 0..quads {
-        let x = 4 * q * across;
+    let mut l = 0;
+    while l + 4 <= g.lines {
+        let x = l * across;
         four(g, f, &mut b[x..], i, a, sa, run, count);
+        l += 4;
     }
-    let l = 4 * quads;
     if l == g.lines {
         return;
     }

@@ -37,7 +37,7 @@ fn walk(
     count
 }
 
-// The product of two packed blocks in one small triangle, by as many walks as its terms ask for.
+// The product of two packed blocks in one small triangle, by as many walks as its terms ask for. A `while`: how many terms a walk takes goes by those that are left.
 fn walks(lower: bool, c: &mut [f64], ld: usize, order: usize, terms: usize, u: &[f64], t: &[f64])
     requires { (0 < order) × (order ≤ ld) × (order * ld + order ≤ length c.old + ld) × (order ≤ 64) × (terms ≤ 64) × (terms * 64 + order ≤ length u.now + 64) × (order * 64 + terms ≤ length t.now + 64) }
     ensures { c.new ≡ update (entries ld (only (corner lower order order) (packed terms u.now t.now))) c.old }
