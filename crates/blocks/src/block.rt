@@ -1,5 +1,6 @@
 // The product of two packed blocks, of at most 64 rows and 64 terms. In u term q, row i stands at q * 64 + i, in t column j, term q at j * 64 + q.
 ghost use Rattle.std.specs.Prelude.{◌≡◌, ◌+◌, ◌*◌, ◌≤◌, ◌<◌, length};
+ghost use Rattle.arrays.specs.Area.{AreaRoom};
 ghost use Rattle.arrays.specs.Update.{update, below, region};
 ghost use Rattle.blocks.specs.Terms.{packed};
 
@@ -85,7 +86,7 @@ fn two(c: &mut [f64], ld: usize, rows: usize, terms: usize, u: &[f64], t: &[f64]
 
 // The product of two packed blocks, added to an area of c.
 pub fn block(c: &mut [f64], area: Area, terms: usize, u: &[f64], t: &[f64])
-    requires ld_nonzero { (0 < area.ld) × (area.rows ≤ area.ld) × (area.cols * area.ld + area.rows ≤ length c.old + area.ld) }
+    requires room { AreaRoom area (length c.old) }
     requires rows_bound { (area.rows ≤ 64) × (terms ≤ 64) × (terms * 64 + area.rows ≤ length u.now + 64) × (area.cols * 64 + terms ≤ length t.now + 64) }
     ensures { c.new ≡ update (region area.ld area.rows area.cols (packed terms u.now t.now)) c.old }
 {

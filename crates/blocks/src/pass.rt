@@ -1,6 +1,7 @@
 // One pass over a column, cleared, scaled or divided, or over an area, cleared or scaled.
 ghost use Rattle.std.specs.Prelude.{◌≡◌, ◌+◌, ◌*◌, ◌≤◌, ◌<◌, length, Float};
 ghost use Rattle.std.specs.Float.Ieee as Ieee;
+ghost use Rattle.arrays.specs.Area.{AreaRoom};
 ghost use Rattle.arrays.specs.Update.{update, below, region};
 ghost use Rattle.floats.specs.Operations.{◌⊗◌, ◌⊘◌, 0f};
 
@@ -20,7 +21,7 @@ fn each<F: Fn(f64) -> f64>(c: &mut [f64], n: usize, f: &F)
 // Each entry of an area becomes what f makes of it.
 fn each_entry<F: Fn(f64) -> f64>(c: &mut [f64], area: Area, f: &F)
     requires callable { F.IsAlwaysCallable f.now }
-    requires fits { (0 < area.ld) × (area.rows ≤ area.ld) × (area.cols * area.ld + area.rows ≤ length c.old + area.ld) }
+    requires fits { AreaRoom area (length c.old) }
     ensures { (g : Float → Float) → ((x r : Float) → F.post f.now x r → r ≡ g x) → c.new ≡ update (region area.ld area.rows area.cols (λ i j x. g x)) c.old }
 {
     for j in 0..area.cols {
@@ -55,7 +56,7 @@ pub fn divide_column(c: &mut [f64], n: usize, d: f64) -> bool
 
 // +0.0 in each entry of an area.
 pub fn clear(c: &mut [f64], area: Area)
-    requires { (0 < area.ld) × (area.rows ≤ area.ld) × (area.cols * area.ld + area.rows ≤ length c.old + area.ld) }
+    requires { AreaRoom area (length c.old) }
     ensures { c.new ≡ update (region area.ld area.rows area.cols (λ i j x. 0f)) c.old }
 {
     each_entry(c, area, &|_| 0.0);
@@ -63,7 +64,7 @@ pub fn clear(c: &mut [f64], area: Area)
 
 // s times each entry of an area.
 pub fn scale(c: &mut [f64], area: Area, s: f64)
-    requires { (0 < area.ld) × (area.rows ≤ area.ld) × (area.cols * area.ld + area.rows ≤ length c.old + area.ld) }
+    requires { AreaRoom area (length c.old) }
     ensures { c.new ≡ update (region area.ld area.rows area.cols (λ i j x. s ⊗ x)) c.old }
 {
     each_entry(c, area, &|x| s * x);

@@ -117,7 +117,7 @@ impl Args {
     };
 }
 
-// The answer of the argument check.
+// The answer of the argument check. (Three cases, so no Option or Result; the definition `checked` gives one of them.)
 #[derive(Clone, Copy)]
 pub enum Checked {
     Refused(u32),

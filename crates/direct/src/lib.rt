@@ -3,6 +3,7 @@
 #![tactic(auto)]
 
 ghost use Rattle.std.specs.Prelude.{◌≡◌, true, false, ℕ, ◌+◌, ◌*◌, ◌≤◌, ◌<◌, length};
+ghost use Rattle.arrays.specs.Area.{SomeRoom};
 ghost use Rattle.arrays.specs.Update.{update, below, entries, only, region, corner};
 ghost use Rattle.floats.specs.Array.{at};
 ghost use Rattle.packing.specs.Factor.{is_mirrored};
@@ -233,7 +234,8 @@ fn column_stride(form: Form, ld: usize) -> usize
 
 // Neither factor is mirrored.
 fn strides(c: &mut [f64], area: Area, p: Product, i0: usize, j0: usize, down: bool)
-    requires rows_nonzero { (0 < area.rows) × (area.rows ≤ area.ld) × (area.cols * area.ld + area.rows ≤ length c.old + area.ld) × (0 < area.cols) × (0 < p.terms) }
+    requires room { SomeRoom area (length c.old) }
+    requires terms_nonzero { (0 < p.terms) }
     requires rows_bound { (i0 + area.rows < 18446744073709551616) × (j0 + area.cols < 18446744073709551616) × (is_mirrored p.left.form ≡ false) × (is_mirrored p.right.form ≡ false) }
     requires by_index { Reads p i0 area.rows j0 area.cols }
     ensures { c.new ≡ update (region area.ld area.rows area.cols (product_of p.entry i0 j0 down)) c.old }
@@ -273,7 +275,8 @@ fn left_mirrored<const N: usize>(
     down: bool,
     s: usize,
 )
-    requires rows_nonzero { (0 < area.rows) × (area.rows ≤ area.ld) × (area.cols * area.ld + area.rows ≤ length c.old + area.ld) × (0 < area.cols) × (area.rows ≤ s) × (0 < p.terms) × (p.terms * s ≤ N) × (N ≤ 256) }
+    requires room { SomeRoom area (length c.old) }
+    requires terms_nonzero { (area.rows ≤ s) × (0 < p.terms) × (p.terms * s ≤ N) × (N ≤ 256) }
     requires rows_bound { (i0 + area.rows < 18446744073709551616) × (j0 + area.cols < 18446744073709551616) × (is_mirrored p.left.form ≡ true) × (is_mirrored p.right.form ≡ false) }
     requires by_index { Reads p i0 area.rows j0 area.cols }
     ensures { c.new ≡ update (region area.ld area.rows area.cols (product_of p.entry i0 j0 down)) c.old }
@@ -299,7 +302,7 @@ fn left_mirrored<const N: usize>(
     strides(c, area, Product { left, ..p }, 0, j0, down);
 }
 
-// The right factor is.
+// The right factor is. (A function of its own, since the factors change places in the product.)
 fn right_mirrored<const N: usize>(
     c: &mut [f64],
     area: Area,
@@ -309,7 +312,8 @@ fn right_mirrored<const N: usize>(
     down: bool,
     s: usize,
 )
-    requires rows_nonzero { (0 < area.rows) × (area.rows ≤ area.ld) × (area.cols * area.ld + area.rows ≤ length c.old + area.ld) × (0 < area.cols) × (p.terms ≤ s) × (0 < p.terms) × (area.cols * s ≤ N) × (N ≤ 256) }
+    requires room { SomeRoom area (length c.old) }
+    requires terms_nonzero { (p.terms ≤ s) × (0 < p.terms) × (area.cols * s ≤ N) × (N ≤ 256) }
     requires rows_bound { (i0 + area.rows < 18446744073709551616) × (j0 + area.cols < 18446744073709551616) × (is_mirrored p.left.form ≡ false) × (is_mirrored p.right.form ≡ true) }
     requires by_index { Reads p i0 area.rows j0 area.cols }
     ensures { c.new ≡ update (region area.ld area.rows area.cols (product_of p.entry i0 j0 down)) c.old }
@@ -383,7 +387,7 @@ pub fn is_tiny_triangle(fa: Form, fb: Form, order: usize, k: usize) -> bool
 
 // A tiny product.
 pub fn direct(c: &mut [f64], area: Area, p: Product, i0: usize, j0: usize, down: bool)
-    requires rows_nonzero { (0 < area.rows) × (area.rows ≤ area.ld) × (area.cols * area.ld + area.rows ≤ length c.old + area.ld) × (0 < area.cols) }
+    requires room { SomeRoom area (length c.old) }
     requires rows_bound { (i0 + area.rows < 18446744073709551616) × (j0 + area.cols < 18446744073709551616) × (is_mirrored p.left.form ≡ true → (area.rows ≤ 16) × (p.terms ≤ 16) × (is_mirrored p.right.form ≡ false)) × (is_mirrored p.right.form ≡ true → (area.cols ≤ 16) × (p.terms ≤ 16)) }
     requires by_index { Reads p i0 area.rows j0 area.cols }
     ensures { c.new ≡ update (region area.ld area.rows area.cols (product_of p.entry i0 j0 down)) c.old }

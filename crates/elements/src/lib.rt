@@ -6,7 +6,7 @@ ghost use Rattle.arrays.specs.Fold.{fold};
 ghost use Rattle.floats.specs.Array.{at};
 ghost use Rattle.packing.specs.Factor.{Indices, along};
 ghost use Rattle.forms.specs.Forms.{op_matrix, Square};
-ghost use Rattle.lines.specs.Lines.{coefficient, Room};
+ghost use Rattle.lines.specs.Lines.{coefficient, Room, GridRoom};
 ghost use Rattle.elements.specs.Sums.{term_of, begun, finished, Summed};
 
 use forms::Op;
@@ -181,7 +181,7 @@ fn singles(
     run: Run,
     count: usize,
 )
-    requires { Room g.left g.ld g.m g.lines (length b.old) × (i < g.m) × Indices run.down run.from count × ((k : ℕ) → k < count → (along run.down run.from k < g.m) × (along run.down run.from k * sa < length a.now)) }
+    requires { GridRoom g (length b.old) × (i < g.m) × Indices run.down run.from count × ((k : ℕ) → k < count → (along run.down run.from k < g.m) × (along run.down run.from k * sa < length a.now)) }
     ensures { Summed g.left g.ld g.m g.lines i f.alpha f.start f.end (λ k. at a.now (along run.down run.from k * sa)) (along run.down run.from) count b.old b.new }
 {
     let across = arrays::pick(g.left, g.ld, 1);
@@ -193,7 +193,7 @@ fn singles(
 
 // Element i of each line, four lines at a time. A `while`, as in direct::column.
 fn fours(g: Grid, f: Formula, b: &mut [f64], i: usize, a: &[f64], sa: usize, run: Run, count: usize)
-    requires { Room g.left g.ld g.m g.lines (length b.old) × (i < g.m) × Indices run.down run.from count × ((k : ℕ) → k < count → (along run.down run.from k < g.m) × (along run.down run.from k * sa < length a.now)) }
+    requires { GridRoom g (length b.old) × (i < g.m) × Indices run.down run.from count × ((k : ℕ) → k < count → (along run.down run.from k < g.m) × (along run.down run.from k * sa < length a.now)) }
     ensures { Summed g.left g.ld g.m g.lines i f.alpha f.start f.end (λ k. at a.now (along run.down run.from k * sa)) (along run.down run.from) count b.old b.new }
 {
     let across = arrays::pick(g.left, g.ld, 1);
@@ -216,7 +216,7 @@ fn fours(g: Grid, f: Formula, b: &mut [f64], i: usize, a: &[f64], sa: usize, run
 
 // Element i of each line becomes its sum. The terms are those of `count` elements of its line, those of a run, with op(A) as on the line's side.
 pub fn element(g: Grid, f: Formula, b: &mut [f64], i: usize, a: Op, run: Run, count: usize)
-    requires room { Room g.left g.ld g.m g.lines (length b.old) × (i < g.m) × Indices run.down run.from count × ((k : ℕ) → k < count → along run.down run.from k < g.m) }
+    requires room { GridRoom g (length b.old) × (i < g.m) × Indices run.down run.from count × ((k : ℕ) → k < count → along run.down run.from k < g.m) }
     requires by_index { Square a g.m }
     ensures { Summed g.left g.ld g.m g.lines i f.alpha f.start f.end (λ k. coefficient g.left (op_matrix a.entry) i (along run.down run.from k)) (along run.down run.from) count b.old b.new }
 {

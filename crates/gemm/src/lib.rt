@@ -2,6 +2,7 @@
 #![tactic(auto)]
 
 ghost use Rattle.std.specs.Prelude.{◌≡◌, false, ℕ, ◌+◌, ◌*◌, ◌≤◌, ◌<◌, length};
+ghost use Rattle.arrays.specs.Area.{SomeRoom};
 ghost use Rattle.arrays.specs.Update.{update, region};
 ghost use Rattle.definitions.specs.Number.{is_zero};
 ghost use Rattle.definitions.specs.Element.{StripOf};
@@ -29,7 +30,8 @@ fn accumulate(
     from: usize,
     r: usize,
 )
-    requires rows_nonzero { (0 < area.rows) × (area.rows ≤ area.ld) × (area.cols * area.ld + area.rows ≤ length c.old + area.ld) × (0 < area.cols) × (area.cols ≤ 256) × (0 < r) × (r ≤ 64) × (from + area.cols < 18446744073709551616) }
+    requires room { SomeRoom area (length c.old) }
+    requires cols_bound { (area.cols ≤ 256) × (0 < r) × (r ≤ 64) × (from + area.cols < 18446744073709551616) }
     requires l_in_bounds { (is_zero alpha ≡ false → (i l : ℕ) → i < area.rows → l < k → index_of left.form left.ld i l < length left.cells.now) × (is_zero alpha ≡ false → (l j : ℕ) → l < k → j < area.cols → index_of right.form right.ld l (from + j) < length right.cells.now) }
     ensures { c.new ≡ update (region area.ld area.rows area.cols (summed alpha beta (matrix_of left.entry) (from_column from (matrix_of right.entry)) k)) c.old }
 {

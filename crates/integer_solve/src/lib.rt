@@ -10,7 +10,7 @@ ghost use Rattle.integer_solve.specs.Elimination.{triangle, Words, term, room, S
 use arguments::Refusal;
 use definitions::Triangle;
 
-// What a call comes to: X is written, there is none, or the number of a refusal.
+// What a call comes to: X is written, there is none, or the number of a refusal. (The three cases are the request's.)
 #[derive(Clone, Copy)]
 pub enum Answer {
     Solved,

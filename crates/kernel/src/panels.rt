@@ -1,5 +1,6 @@
 // The general multiply by blocks: panels of r terms, in each of them blocks of r rows.
 ghost use Rattle.std.specs.Prelude.{◌≡◌, ℕ, ◌+◌, ◌*◌, ◌≤◌, ◌<◌, length};
+ghost use Rattle.arrays.specs.Area.{AreaRoom, SomeRoom};
 ghost use Rattle.arrays.specs.Update.{update, region};
 ghost use Rattle.packing.specs.Factor.{Indices, index_of, matrix_of, along};
 ghost use Rattle.kernel.specs.Panels.{half_packed};
@@ -24,7 +25,8 @@ pub fn sweep(
     u: &mut [f64],
     t: &[f64],
 )
-    requires ld_nonzero { (0 < area.ld) × (area.rows ≤ area.ld) × (area.cols * area.ld + area.rows ≤ length c.old + area.ld) × (0 < area.cols) × (area.cols * 64 ≤ length t.now) }
+    requires room { AreaRoom area (length c.old) }
+    requires cols_nonzero { (0 < area.cols) × (area.cols * 64 ≤ length t.now) }
     requires terms_nonzero { (0 < n) × (n ≤ 64) × (n * 64 ≤ length u.old) × (0 < r) × (r ≤ 64) × (i0 + area.rows < 18446744073709551616) × Indices terms.down terms.from n }
     requires by_index { (i q : ℕ) → i < area.rows → q < n → index_of a.form a.ld (i0 + i) (along terms.down terms.from q) < length a.cells.now }
     ensures { (c.new ≡ update (region area.ld area.rows area.cols (half_packed n t.now (λ i q. matrix_of a.entry (i0 + i) (along terms.down terms.from q)))) c.old) × (length u.new ≡ length u.old) }
@@ -51,7 +53,8 @@ fn panels(
     u: &mut [f64],
     t: &mut [f64],
 )
-    requires rows_nonzero { (0 < area.rows) × (area.rows ≤ area.ld) × (area.cols * area.ld + area.rows ≤ length c.old + area.ld) × (0 < area.cols) × (0 < r) × (r ≤ 64) × (4096 ≤ length u.old) × (area.cols * 64 ≤ length t.old) }
+    requires room { SomeRoom area (length c.old) }
+    requires r_nonzero { (0 < r) × (r ≤ 64) × (4096 ≤ length u.old) × (area.cols * 64 ≤ length t.old) }
     requires rows_bound { (i0 + area.rows < 18446744073709551616) × (j0 + area.cols < 18446744073709551616) }
     requires by_index { Reads p i0 area.rows j0 area.cols }
     ensures { c.new ≡ update (region area.ld area.rows area.cols (product_of p.entry i0 j0 down)) c.old }
@@ -86,7 +89,8 @@ pub fn buffered<const N: usize>(
     down: bool,
     r: usize,
 )
-    requires rows_nonzero { (0 < area.rows) × (area.rows ≤ area.ld) × (area.cols * area.ld + area.rows ≤ length c.old + area.ld) × (0 < area.cols) × (area.cols * 64 ≤ N) × (N ≤ 16384) × (0 < r) × (r ≤ 64) }
+    requires room { SomeRoom area (length c.old) }
+    requires cols_bound { (area.cols * 64 ≤ N) × (N ≤ 16384) × (0 < r) × (r ≤ 64) }
     requires rows_bound { (i0 + area.rows < 18446744073709551616) × (j0 + area.cols < 18446744073709551616) }
     requires by_index { Reads p i0 area.rows j0 area.cols }
     ensures { c.new ≡ update (region area.ld area.rows area.cols (product_of p.entry i0 j0 down)) c.old }

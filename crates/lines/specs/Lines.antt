@@ -5,6 +5,7 @@
 --     line_form     how an array that holds its lines by one side is read by the other, or the same
 --     line_term     what the term of element p, whose value is x, makes of the sum e of element q: e + (alpha * v) * u, with op(A) = T on the left for side L
 --     Room         the array has room for `lines` lines of m elements
+--     GridRoom     the array has room for these lines
 -- The coefficients of the terms of the elements of a block for one another:
 --     coefficient  the entry of op(A) = T in the term of element p for the sum of element q
 --     by_columns    whether the coefficients for one sum stand in a column of A
@@ -20,6 +21,7 @@ use Rattle.definitions.specs.declared.Transpose.TheVariants.{No, Yes}
 use Rattle.packing.specs.Factor.{Matrix, turn}
 use Rattle.packing.specs.declared.Form.{Form}
 use Rattle.packing.specs.declared.Form.TheVariants.{Plain, Transposed}
+use Rattle.lines.specs.declared.Grid.{Grid}
 
 unfoldable pub cell : Bool → ℕ → ℕ → ℕ → ℕ
 cell true ld q l = l * ld + q
@@ -56,6 +58,9 @@ Beside false i p = p < i
 
 abbrev pub Room : Bool → ℕ → ℕ → ℕ → ℕ → Type 0
 Room left ld m lines len = ((if left then m else lines) ≤ ld) × ((if left then lines else m) * ld + (if left then m else lines) ≤ len + ld)
+
+abbrev pub GridRoom : Grid → ℕ → Type 0
+GridRoom g len = Room g.left g.ld g.m g.lines len
 
 pub record RowOf (down : Bool) (n lo count : ℕ) (a v r : List Float) : Type 0 where
   pub same_length : length r ≡ length v

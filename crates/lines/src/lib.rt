@@ -7,7 +7,7 @@ ghost use Rattle.arrays.specs.Fold.{fold};
 ghost use Rattle.floats.specs.Array.{at};
 ghost use Rattle.packing.specs.Factor.{index_of, turn};
 ghost use Rattle.forms.specs.Forms.{op_form, op_matrix};
-ghost use Rattle.lines.specs.Lines.{cell, grid, within, line_form, line_term, Room};
+ghost use Rattle.lines.specs.Lines.{cell, grid, within, line_form, line_term, GridRoom};
 
 pub mod triangle;
 
@@ -46,7 +46,7 @@ fn line_form(left: bool, side: bool) -> Form
 // The elements from x0 on, n of them, of each line, copied to x, which holds its lines as `side` says.
 pub fn take(g: Grid, side: bool, x: &mut [f64], b: &[f64], x0: usize, n: usize)
     requires n_nonzero { (0 < n) × (n ≤ 64) × (0 < g.lines) × (g.lines ≤ 64) × (x0 + n ≤ g.m) × (4096 ≤ length x.old) }
-    requires room { Room g.left g.ld g.m g.lines (length b.now) }
+    requires room { GridRoom g (length b.now) }
     ensures { x.new ≡ update (grid side 64 n g.lines (λ q l _. at b.now (cell g.left g.ld (x0 + q) l))) x.old }
 {
     let f = line_form(g.left, side);
@@ -69,7 +69,7 @@ pub fn take(g: Grid, side: bool, x: &mut [f64], b: &[f64], x0: usize, n: usize)
 // The elements from x0 on, n of them, of each line become those of x, which holds its lines as `side` says.
 pub fn put(g: Grid, side: bool, b: &mut [f64], x0: usize, n: usize, x: &[f64])
     requires n_nonzero { (0 < n) × (n ≤ 64) × (0 < g.lines) × (g.lines ≤ 64) × (x0 + n ≤ g.m) × (4096 ≤ length x.now) }
-    requires room { Room g.left g.ld g.m g.lines (length b.old) }
+    requires room { GridRoom g (length b.old) }
     ensures { b.new ≡ update (grid g.left g.ld g.m g.lines (λ q l e. if within x0 n q then at x.now (cell side 64 (q - x0) l) else e)) b.old }
 {
     let f = line_form(side, g.left);
@@ -101,7 +101,7 @@ pub fn add_terms(
     r: usize,
 )
     requires n_nonzero { (0 < n) × (n ≤ 64) × (0 < h) × (g.left ≡ false → h ≤ 256) × (0 < g.lines) × (g.lines ≤ 64) × (y + h ≤ g.m) × (0 < r) × (r ≤ 64) × (4096 ≤ length x.now) }
-    requires room { Room g.left g.ld g.m g.lines (length b.old) }
+    requires room { GridRoom g (length b.old) }
     requires by_index { (q p : ℕ) → q < h → p < n → (if g.left then index_of (op_form a.t) a.ld (y + q) (x0 + p) else index_of (op_form a.t) a.ld (x0 + p) (y + q)) < length a.cells.now }
     ensures { b.new ≡ update (grid g.left g.ld g.m g.lines (λ q l e. if within y h q then fold (λ e i. line_term g.left alpha (op_matrix a.entry) q e (x0 + turn down n i) (at x.now (cell g.left 64 (turn down n i) l))) n e else e)) b.old }
 {

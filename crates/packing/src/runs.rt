@@ -1,4 +1,5 @@
 // Runs of elements: copied or spread to lines of their own, the first or the last one first, or gathered from several columns.
+// (Each loop has an index of its own. One loop over a function of the index would need a wrapper for each, which is no plainer.)
 ghost use Rattle.std.specs.Prelude.{◌≡◌, ℕ, ◌+◌, ◌-◌, ◌*◌, ◌≤◌, ◌<◌, length};
 ghost use Rattle.arrays.specs.Update.{update, below, region};
 ghost use Rattle.floats.specs.Array.{at};

@@ -11,7 +11,7 @@ ghost use Rattle.records.specs.Judgement as Judgement;
 
 use definitions::{Args, Call, Checked, Routine, Scalar};
 
-// What the tests of a record come to: refused with a number, or accepted, with nothing to do or with work.
+// What the tests of a record come to: refused with a number, or accepted, with nothing to do or with work. (Three cases, as those of the argument check.)
 #[derive(Clone, Copy)]
 pub enum Judged {
     Rejected(u32),

@@ -2,6 +2,7 @@
 #![tactic(auto)]
 
 ghost use Rattle.std.specs.Prelude.{◌≡◌, ◌+◌, ◌*◌, ◌≤◌, ◌<◌, length};
+ghost use Rattle.arrays.specs.Area.{AreaRoom};
 ghost use Rattle.arrays.specs.Update.{update, below, region};
 ghost use Rattle.definitions.specs.Number.{start};
 
@@ -22,7 +23,7 @@ pub fn column(c: &mut [f64], n: usize, beta: Scalar)
 
 // The entries of an area.
 pub fn region(c: &mut [f64], area: Area, beta: Scalar)
-    requires { (0 < area.ld) × (area.rows ≤ area.ld) × (area.cols * area.ld + area.rows ≤ length c.old + area.ld) }
+    requires { AreaRoom area (length c.old) }
     ensures { c.new ≡ update (region area.ld area.rows area.cols (λ i j x. start beta x)) c.old }
 {
     match beta {

@@ -9,7 +9,7 @@ ghost use Rattle.strips.specs.Lengths.{FitsArrays, widest};
 use definitions::{Call, Routine};
 
 // The strip of `lines` columns from `from` on, or rows where strips cut rows, of a call that fits, in blocks of r. A solve hands back the lowest diagonal index at
-// which A is zero; where there is none, and for the other routines, it is -1.
+// which A is zero; where there is none, and for the other routines, it is -1, as C gets it and the definition `zero_of` says.
 pub fn strip(
     call: Call,
     a: &[f64],

@@ -8,7 +8,7 @@ ghost use Rattle.blocks.specs.Terms.{packed};
 ghost use Rattle.packing.specs.Factor.{Indices, is_mirrored, index_of, matrix_of, along};
 ghost use Rattle.kernel.specs.Panels.{half_packed};
 ghost use Rattle.triangles.specs.Slab.{slab};
-ghost use Rattle.triangles.specs.Part.{part_of, product_of, Reads};
+ghost use Rattle.triangles.specs.Part.{part_of, product_of, PartRoom, Reads};
 
 use arrays::Area;
 use arrays::pieces::Pieces;
@@ -102,7 +102,8 @@ fn panel(
     u: &mut [f64],
     t: &[f64],
 )
-    requires n_le_ld { (part.n ≤ part.ld) × (part.cols * part.ld + part.n ≤ length c.old + part.ld) × (0 < part.cols) × (part.from + part.cols ≤ part.n) × (0 < r) × (r ≤ 64) × (4096 ≤ length u.old) × (part.cols * 64 ≤ length t.now) }
+    requires room { PartRoom part (length c.old) }
+    requires r_nonzero { (0 < r) × (r ≤ 64) × (4096 ≤ length u.old) × (part.cols * 64 ≤ length t.now) }
     requires terms_nonzero { (0 < n) × (n ≤ 64) × Indices false term n }
     requires by_index { (i q : ℕ) → i < part.n → q < n → index_of a.form a.ld i (along false term q) < length a.cells.now }
     ensures { (c.new ≡ update (part_of part (half_packed n t.now (λ i q. matrix_of a.entry i (along false term q)))) c.old) × (length u.new ≡ length u.old) }
@@ -137,7 +138,8 @@ fn panel(
 
 // The product by panels of r terms, with the buffers u and t.
 fn by_panels(c: &mut [f64], part: Part, p: Product, r: usize, u: &mut [f64], t: &mut [f64])
-    requires n_le_ld { (part.n ≤ part.ld) × (part.cols * part.ld + part.n ≤ length c.old + part.ld) × (0 < part.cols) × (part.from + part.cols ≤ part.n) × (0 < r) × (r ≤ 64) × (4096 ≤ length u.old) × (part.cols * 64 ≤ length t.old) }
+    requires room { PartRoom part (length c.old) }
+    requires r_nonzero { (0 < r) × (r ≤ 64) × (4096 ≤ length u.old) × (part.cols * 64 ≤ length t.old) }
     requires by_index { Reads p part.n }
     ensures { c.new ≡ update (part_of part (product_of part.from p.entry)) c.old }
 {
@@ -163,7 +165,8 @@ fn by_panels(c: &mut [f64], part: Part, p: Product, r: usize, u: &mut [f64], t: 
 
 // The same with buffers of its own, of which that of the right factor has N elements: 64 for each column.
 fn buffered<const N: usize>(c: &mut [f64], part: Part, p: Product, r: usize)
-    requires n_le_ld { (part.n ≤ part.ld) × (part.cols * part.ld + part.n ≤ length c.old + part.ld) × (0 < part.cols) × (part.from + part.cols ≤ part.n) × (0 < r) × (r ≤ 64) × (part.cols * 64 ≤ N) × (N ≤ 16384) }
+    requires room { PartRoom part (length c.old) }
+    requires r_nonzero { (0 < r) × (r ≤ 64) × (part.cols * 64 ≤ N) × (N ≤ 16384) }
     requires by_index { Reads p part.n }
     ensures { c.new ≡ update (part_of part (product_of part.from p.entry)) c.old }
 {
@@ -174,7 +177,8 @@ fn buffered<const N: usize>(c: &mut [f64], part: Part, p: Product, r: usize)
 
 // The same where the square on the diagonal is tiny: it goes straight from the arrays, and what lies beside it is a product of the kernel.
 fn tiny(c: &mut [f64], part: Part, p: Product, r: usize)
-    requires n_le_ld { (part.n ≤ part.ld) × (part.cols * part.ld + part.n ≤ length c.old + part.ld) × (0 < part.cols) × (part.from + part.cols ≤ part.n) × (0 < r) × (r ≤ 64) × (part.cols ≤ 256) × (is_mirrored p.left.form ≡ false) × (is_mirrored p.right.form ≡ false) }
+    requires room { PartRoom part (length c.old) }
+    requires r_nonzero { (0 < r) × (r ≤ 64) × (part.cols ≤ 256) × (is_mirrored p.left.form ≡ false) × (is_mirrored p.right.form ≡ false) }
     requires by_index { Reads p part.n }
     ensures { c.new ≡ update (part_of part (product_of part.from p.entry)) c.old }
 {
@@ -203,7 +207,8 @@ fn tiny(c: &mut [f64], part: Part, p: Product, r: usize)
 
 // The general multiply in some columns of one triangle, diagonal included: alpha times the left factor times the right one is added, in all terms. The other entries are kept.
 pub fn trapezoid(c: &mut [f64], part: Part, p: Product, r: usize)
-    requires n_le_ld { (part.n ≤ part.ld) × (part.cols * part.ld + part.n ≤ length c.old + part.ld) × (0 < part.cols) × (part.from + part.cols ≤ part.n) × (0 < r) × (r ≤ 64) × (part.cols ≤ 256) }
+    requires room { PartRoom part (length c.old) }
+    requires r_nonzero { (0 < r) × (r ≤ 64) × (part.cols ≤ 256) }
     requires by_index { Reads p part.n }
     ensures { c.new ≡ update (part_of part (product_of part.from p.entry)) c.old }
 {

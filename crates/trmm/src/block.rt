@@ -4,7 +4,7 @@ ghost use Rattle.arrays.specs.Update.{update};
 ghost use Rattle.arrays.specs.Fold.{fold};
 ghost use Rattle.floats.specs.Array.{at};
 ghost use Rattle.forms.specs.Forms.{op_matrix, Square};
-ghost use Rattle.lines.specs.Lines.{cell, grid, within, line_term, Room};
+ghost use Rattle.lines.specs.Lines.{cell, grid, within, line_term, GridRoom};
 ghost use Rattle.trmm_diagonal.specs.Terms.{term_from, matrix_of};
 ghost use Rattle.trmm.specs.Sum.{sum_of};
 
@@ -30,7 +30,7 @@ fn beside(
     r: usize,
 )
     requires n_nonzero { (0 < n) × (n ≤ 64) × (p0 + n ≤ g.m) × (lo + count ≤ g.m) × (0 < g.lines) × (g.lines ≤ 64) × (0 < r) × (r ≤ 64) × (4096 ≤ length z.old) }
-    requires room { Room g.left g.ld g.m g.lines (length b.now) }
+    requires room { GridRoom g (length b.now) }
     requires by_index { Square a g.m }
     ensures { z.new ≡ update (grid g.left 64 n g.lines (λ q l e. fold (λ e i. line_term g.left alpha (op_matrix a.entry) (p0 + q) e (lo + i) (at b.now (cell g.left g.ld (lo + i) l))) count e)) z.old }
 {
@@ -93,7 +93,7 @@ fn beside(
 // All terms of the n elements from p0 on, whose sums are in z: those of the block itself and those on one side of it, in order.
 fn sums(g: Grid, by: Multiplier, b: &[f64], p0: usize, n: usize, z: &mut [f64], r: usize)
     requires n_nonzero { (0 < n) × (n ≤ 64) × (p0 + n ≤ g.m) × (0 < g.lines) × (g.lines ≤ 64) × (0 < r) × (r ≤ 64) × (4096 ≤ length z.old) }
-    requires room { Room g.left g.ld g.m g.lines (length b.now) }
+    requires room { GridRoom g (length b.now) }
     requires by_index { Square by.a g.m }
     ensures { z.new ≡ update (grid g.left 64 n g.lines (λ q l e. fold (term_from g.left by.entry.after by.entry.alpha (matrix_of by.entry) 0 (λ p. at b.now (cell g.left g.ld p l)) (p0 + q)) g.m e)) z.old }
 {
@@ -118,7 +118,7 @@ fn is_alone(after: bool, m: usize, p0: usize, n: usize) -> bool
 // The n elements from p0 on of each line become their sums over all m elements. If the block is alone, these are made across at once.
 pub fn block(g: Grid, by: Multiplier, b: &mut [f64], p0: usize, n: usize, r: usize)
     requires n_nonzero { (0 < n) × (n ≤ 64) × (p0 + n ≤ g.m) × (0 < g.lines) × (g.lines ≤ 64) × (0 < r) × (r ≤ 64) }
-    requires room { Room g.left g.ld g.m g.lines (length b.old) }
+    requires room { GridRoom g (length b.old) }
     requires by_index { Square by.a g.m }
     ensures { b.new ≡ update (grid g.left g.ld g.m g.lines (λ q l e. if within p0 n q then sum_of g.left by.entry.after by.entry.alpha (matrix_of by.entry) g.m (λ p. at b.old (cell g.left g.ld p l)) q else e)) b.old }
 {

@@ -13,7 +13,7 @@ ghost use Rattle.definitions.specs.Element.{StripOf};
 ghost use Rattle.definitions.specs.declared.Routine.TheVariants.{Trmm};
 ghost use Rattle.definitions.proofs.Fits.{Fits};
 ghost use Rattle.forms.specs.Forms.{op_matrix, Square};
-ghost use Rattle.lines.specs.Lines.{cell, grid, within, Room};
+ghost use Rattle.lines.specs.Lines.{cell, grid, within, GridRoom};
 ghost use Rattle.elements.specs.declared.Start.TheVariants.{Zero, OwnFirst};
 ghost use Rattle.elements.specs.declared.End.TheVariants.{Sum, OwnLast};
 ghost use Rattle.trmm_diagonal.specs.Terms.{matrix_of};
@@ -42,7 +42,7 @@ fn next_block(after: bool, m: usize, k: usize, n: usize) -> usize
 // Each element of each line becomes the sum of its terms: block after block.
 fn sum_lines(g: Grid, by: Multiplier, b: &mut [f64], r: usize)
     requires m_nonzero { (0 < g.m) × (0 < g.lines) × (g.lines ≤ 64) × (0 < r) × (r ≤ 64) }
-    requires room { Room g.left g.ld g.m g.lines (length b.old) }
+    requires room { GridRoom g (length b.old) }
     requires by_index { Square by.a g.m }
     ensures { b.new ≡ update (grid g.left g.ld g.m g.lines (λ q l _. sum_of g.left by.entry.after by.entry.alpha (matrix_of by.entry) g.m (λ p. at b.old (cell g.left g.ld p l)) q)) b.old }
 {
@@ -73,7 +73,7 @@ fn end_of(after: bool, w: f64) -> End
 // Element i of each line becomes the sum of its terms, straight from the arrays.
 fn sum_element(g: Grid, by: Multiplier, b: &mut [f64], i: usize)
     requires i_lt_m { i < g.m }
-    requires room { Room g.left g.ld g.m g.lines (length b.old) }
+    requires room { GridRoom g (length b.old) }
     requires by_index { Square by.a g.m }
     ensures { b.new ≡ update (grid g.left g.ld g.m g.lines (λ q l e. if within i 1 q then sum_of g.left by.entry.after by.entry.alpha (matrix_of by.entry) g.m (λ p. at b.old (cell g.left g.ld p l)) q else e)) b.old }
 {
@@ -95,7 +95,7 @@ fn sum_element(g: Grid, by: Multiplier, b: &mut [f64], i: usize)
 // Each element of each line becomes the sum of its terms, one after the other, without buffers: for tiny calls.
 fn sum_elements(g: Grid, by: Multiplier, b: &mut [f64])
     requires m_nonzero { (0 < g.m) × (0 < g.lines) }
-    requires room { Room g.left g.ld g.m g.lines (length b.old) }
+    requires room { GridRoom g (length b.old) }
     requires by_index { Square by.a g.m }
     ensures { b.new ≡ update (grid g.left g.ld g.m g.lines (λ q l _. sum_of g.left by.entry.after by.entry.alpha (matrix_of by.entry) g.m (λ p. at b.old (cell g.left g.ld p l)) q)) b.old }
 {
@@ -108,7 +108,7 @@ fn sum_elements(g: Grid, by: Multiplier, b: &mut [f64])
 // +0.0 in each element of each line.
 fn clear_lines(g: Grid, b: &mut [f64])
     requires m_nonzero { (0 < g.m) × (0 < g.lines) }
-    requires room { Room g.left g.ld g.m g.lines (length b.old) }
+    requires room { GridRoom g (length b.old) }
     ensures { b.new ≡ update (grid g.left g.ld g.m g.lines (λ q l _. 0f)) b.old }
 {
     if g.left {
@@ -143,7 +143,7 @@ fn multiply_lines(
     r: usize,
 )
     requires m_nonzero { (0 < g.m) × (0 < g.lines) × (g.lines ≤ 64) × (0 < r) × (r ≤ 64) }
-    requires room { Room g.left g.ld g.m g.lines (length b.old) }
+    requires room { GridRoom g (length b.old) }
     requires j_in_bounds { is_zero alpha ≡ false → Square a g.m }
     ensures { b.new ≡ update (grid g.left g.ld g.m g.lines (λ q l _. line_value g.left after alpha (with_diagonal 1f diag (op_matrix a.entry)) g.m (λ p. at b.old (cell g.left g.ld p l)) q)) b.old }
 {

@@ -10,7 +10,7 @@ ghost use Rattle.floats.specs.Operations.{1f};
 ghost use Rattle.definitions.specs.Storage.{with_diagonal};
 ghost use Rattle.packing.specs.Factor.{index_of};
 ghost use Rattle.forms.specs.Forms.{op_form, op_matrix, Square};
-ghost use Rattle.lines.specs.Lines.{cell, grid, within, coefficient, Room};
+ghost use Rattle.lines.specs.Lines.{cell, grid, within, coefficient, GridRoom};
 ghost use Rattle.trmm_diagonal.specs.Terms.{has, held_terms, term_from, matrix_of, Pivots};
 
 use arrays::Area;
@@ -120,7 +120,7 @@ fn triangle(left: bool, by: Multiplier, p0: usize, n: usize, v: &mut [f64])
 // All terms of the n elements from p0 on for these elements themselves, whose sums stand across in s.
 pub fn across(g: Grid, by: Multiplier, b: &[f64], p0: usize, n: usize, s: &mut [f64])
     requires n_nonzero { (0 < n) × (n ≤ 64) × (p0 + n ≤ g.m) × (0 < g.lines) × (g.lines ≤ 64) × (4096 ≤ length s.old) }
-    requires room { Room g.left g.ld g.m g.lines (length b.now) }
+    requires room { GridRoom g (length b.now) }
     requires by_index { Square by.a g.m }
     ensures { s.new ≡ update (grid false 64 n g.lines (λ q l e. fold (term_from g.left by.entry.after by.entry.alpha (matrix_of by.entry) p0 (λ k. at b.now (cell g.left g.ld (p0 + k) l)) (p0 + q)) n e)) s.old }
 {
@@ -150,7 +150,7 @@ pub fn across(g: Grid, by: Multiplier, b: &[f64], p0: usize, n: usize, s: &mut [
 // The same where z holds the sums as the side does: for side L they are turned across and back.
 pub fn diagonal(g: Grid, by: Multiplier, b: &[f64], p0: usize, n: usize, z: &mut [f64])
     requires n_nonzero { (0 < n) × (n ≤ 64) × (p0 + n ≤ g.m) × (0 < g.lines) × (g.lines ≤ 64) × (4096 ≤ length z.old) }
-    requires room { Room g.left g.ld g.m g.lines (length b.now) }
+    requires room { GridRoom g (length b.now) }
     requires by_index { Square by.a g.m }
     ensures { z.new ≡ update (grid g.left 64 n g.lines (λ q l e. fold (term_from g.left by.entry.after by.entry.alpha (matrix_of by.entry) p0 (λ k. at b.now (cell g.left g.ld (p0 + k) l)) (p0 + q)) n e)) z.old }
 {

@@ -12,7 +12,7 @@ ghost use Rattle.definitions.specs.Element.{divided, by_zero, zero_of, StripOf};
 ghost use Rattle.definitions.specs.declared.Routine.TheVariants.{Trsm};
 ghost use Rattle.definitions.proofs.Fits.{Fits};
 ghost use Rattle.forms.specs.Forms.{op_matrix, Square};
-ghost use Rattle.lines.specs.Lines.{cell, grid, Room};
+ghost use Rattle.lines.specs.Lines.{cell, grid, GridRoom};
 ghost use Rattle.elements.specs.Sums.{finished};
 ghost use Rattle.trsm_diagonal.specs.Solve.{front, zero_among};
 ghost use Rattle.trsm.specs.Steps.{line_value, Step};
@@ -37,7 +37,7 @@ fn reach(left: bool, m: usize) -> usize
 // The terms of the unknowns from the p-th on, n of them, in the sums of all after them.
 fn update_rest(g: Grid, by: Divisor, b: &mut [f64], p: usize, n: usize, r: usize)
     requires n_nonzero { (0 < n) × (n ≤ 64) × (p + n ≤ g.m) × (0 < g.lines) × (g.lines ≤ 64) × (0 < r) × (r ≤ 64) }
-    requires room { Room g.left g.ld g.m g.lines (length b.old) }
+    requires room { GridRoom g (length b.old) }
     requires by_index { Square by.a g.m }
     ensures { Step g.left by.entry.down g.ld g.m g.lines by.entry.diag (op_matrix by.entry.a) (λ k. front (p + n) (p + n) (front g.m p k)) (front g.m (p + n)) b.old b.new }
 {
@@ -58,7 +58,7 @@ fn update_rest(g: Grid, by: Divisor, b: &mut [f64], p: usize, n: usize, r: usize
 // The unknowns from the p-th on, n of them, whose sums have the terms of all before the p-th: for side L in a copy of the block's lines.
 fn solve_block(g: Grid, by: Divisor, b: &mut [f64], p: usize, n: usize) -> Option<usize>
     requires n_nonzero { (0 < n) × (n ≤ 64) × (p + n ≤ g.m) × (0 < g.lines) × (g.lines ≤ 64) }
-    requires room { Room g.left g.ld g.m g.lines (length b.old) }
+    requires room { GridRoom g (length b.old) }
     requires by_index { Square by.a g.m }
     ensures { Step g.left by.entry.down g.ld g.m g.lines by.entry.diag (op_matrix by.entry.a) (front (p + n) p) (front (p + n) (p + n)) b.old b.new
         × Found (zero_among by.entry.down g.m by.entry.diag (op_matrix by.entry.a) p (p + n)) g.m result }
@@ -81,7 +81,7 @@ fn solve_block(g: Grid, by: Divisor, b: &mut [f64], p: usize, n: usize) -> Optio
 // All unknowns, by blocks of r.
 fn solve(g: Grid, by: Divisor, b: &mut [f64], r: usize) -> Option<usize>
     requires m_nonzero { (0 < g.m) × (0 < g.lines) × (g.lines ≤ 64) × (0 < r) × (r ≤ 64) }
-    requires room { Room g.left g.ld g.m g.lines (length b.old) }
+    requires room { GridRoom g (length b.old) }
     requires by_index { Square by.a g.m }
     ensures { Step g.left by.entry.down g.ld g.m g.lines by.entry.diag (op_matrix by.entry.a) (front g.m 0) (front g.m g.m) b.old b.new
         × Found (λ i. by_zero by.entry.diag (op_matrix by.entry.a i i)) g.m result }
@@ -121,7 +121,7 @@ fn ends_by_zero(by: Divisor, i: usize) -> bool
 // The j-th unknown of all lines, straight from the arrays, when those before it are solved.
 fn solve_element(g: Grid, by: Divisor, b: &mut [f64], j: usize)
     requires j_lt_m { (j < g.m) × (0 < g.lines) }
-    requires room { Room g.left g.ld g.m g.lines (length b.old) }
+    requires room { GridRoom g (length b.old) }
     requires by_index { Square by.a g.m }
     ensures { Step g.left by.entry.down g.ld g.m g.lines by.entry.diag (op_matrix by.entry.a) (λ k. front j j (front g.m 0 k)) (λ k. front (j + 1) (j + 1) (front g.m 0 k)) b.old b.new }
 {
@@ -142,7 +142,7 @@ fn solve_element(g: Grid, by: Divisor, b: &mut [f64], j: usize)
 // All unknowns, one after the other, without buffers: for tiny calls.
 fn solve_elements(g: Grid, by: Divisor, b: &mut [f64]) -> Option<usize>
     requires m_nonzero { (0 < g.m) × (0 < g.lines) }
-    requires room { Room g.left g.ld g.m g.lines (length b.old) }
+    requires room { GridRoom g (length b.old) }
     requires by_index { Square by.a g.m }
     ensures { Step g.left by.entry.down g.ld g.m g.lines by.entry.diag (op_matrix by.entry.a) (front g.m 0) (front g.m g.m) b.old b.new
         × Found (λ i. by_zero by.entry.diag (op_matrix by.entry.a i i)) g.m result }
@@ -159,7 +159,7 @@ fn solve_elements(g: Grid, by: Divisor, b: &mut [f64]) -> Option<usize>
 // All lines: cleared if alpha is zero (A is not read), else solved with alpha times B as the start.
 fn solve_lines(g: Grid, by: Divisor, alpha: Scalar, b: &mut [f64], r: usize) -> Option<usize>
     requires m_nonzero { (0 < g.m) × (0 < g.lines) × (g.lines ≤ 64) × (0 < r) × (r ≤ 64) }
-    requires room { Room g.left g.ld g.m g.lines (length b.old) }
+    requires room { GridRoom g (length b.old) }
     requires j_in_bounds { is_zero alpha ≡ false → Square by.a g.m }
     ensures { (b.new ≡ update (grid g.left g.ld g.m g.lines (λ i l _. line_value g.left by.entry.down g.m by.entry.diag alpha (op_matrix by.entry.a) (λ p. at b.old (cell g.left g.ld p l)) i)) b.old)
         × Found (λ i. not (is_zero alpha) && by_zero by.entry.diag (op_matrix by.entry.a i i)) g.m result }

@@ -23,7 +23,8 @@ block-requires g c = record {
 
 pub strides-requires : goal.strides-requires
 strides-requires g c = let e = ap length c.block.ensures ∙ length-update _ _ in record {
-  rows_nonzero = omega arith;
+  room = omega arith;
+  terms_nonzero = omega arith;
   rows_bound = (omega arith, c.requires.rows_bound.1, refl, c.requires.rows_bound.3);
   by_index = ((λ i l hi hl. rw (zero-add i) (buffer-room c.args.s i l (omega arith) (omega (arith, e)) hi hl)), c.requires.by_index.1);
 }

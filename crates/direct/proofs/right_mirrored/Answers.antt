@@ -23,7 +23,8 @@ block-requires g c = record {
 
 pub strides-requires : goal.strides-requires
 strides-requires g c = let e = ap length c.block.ensures ∙ length-update _ _ in record {
-  rows_nonzero = omega arith;
+  room = omega arith;
+  terms_nonzero = omega arith;
   rows_bound = (c.requires.rows_bound.0, omega arith, c.requires.rows_bound.2, refl);
   by_index = (c.requires.by_index.0, (λ l j hl hj. rw (zero-add j) (buffer-room c.args.s l j (omega arith) (omega (arith, e)) hl hj)));
 }

@@ -14,7 +14,8 @@ accumulate-requires c =
     let g = c.args.call in
     let f = c.requires.fits in
     let b = c.requires.cols_nonzero in record {
-      rows_nonzero = (f.some-rows, f.ld-c, part_room _ _ _ _ _ _ f.room-c f.some-rows (omega (arith, b)) (omega (arith, b)), omega (arith, b), omega (arith, b), omega (arith, b), omega (arith, b), omega (arith, b));
+      room = (f.some-rows, f.ld-c, part_room _ _ _ _ _ _ f.room-c f.some-rows (omega (arith, b)) (omega (arith, b)), omega (arith, b));
+      cols_bound = omega (arith, b);
       l_in_bounds = (
         (λ z i l hi hl. rw c.op_form-fa.ensures (op-inside g.transa _ _ _ _ (f.room-a (some-term g l z hl)) i l hi hl)),
         (λ z l j hl hj. rw c.op_form-fb.ensures (op-inside g.transb _ _ _ _ (f.room-b (some-term g l z hl)) l _ hl (omega (arith, b)))),

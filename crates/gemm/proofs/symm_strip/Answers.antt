@@ -16,7 +16,8 @@ accumulate-requires c =
     let f = c.requires.fits in
     let b = c.requires.cols_nonzero in
     let o : order g ≡ g.m = ap (λ (s : Side). by_side s g.m g.n) c.in-Left.is in record {
-      rows_nonzero = (f.some-rows, f.ld-c, part_room _ _ _ _ _ _ f.room-c f.some-rows (omega (arith, b)) (omega (arith, b)), omega (arith, b), omega (arith, b), omega (arith, b), omega (arith, b), omega (arith, b));
+      room = (f.some-rows, f.ld-c, part_room _ _ _ _ _ _ f.room-c f.some-rows (omega (arith, b)) (omega (arith, b)), omega (arith, b));
+      cols_bound = omega (arith, b);
       l_in_bounds = (
         (λ z i l hi hl. rw c.mirrored_form-f.ensures (mirrored-inside g.uplo _ (order g) _ (f.room-a (some-factor g (ap has_k f.routine-is) z)) i l (omega (arith, o)) (omega (arith, o)))),
         (λ z l j hl hj. plain-inside _ _ _ _ (f.room-b (some-factor g (ap has_k f.routine-is) z)) l _ hl (omega (arith, b))),
@@ -30,7 +31,8 @@ accumulate-requires-in-Right c =
     let f = c.requires.fits in
     let b = c.requires.cols_nonzero in
     let o : order g ≡ g.n = ap (λ (s : Side). by_side s g.m g.n) c.in-Right.is in record {
-      rows_nonzero = (f.some-rows, f.ld-c, part_room _ _ _ _ _ _ f.room-c f.some-rows (omega (arith, b)) (omega (arith, b)), omega (arith, b), omega (arith, b), omega (arith, b), omega (arith, b), omega (arith, b));
+      room = (f.some-rows, f.ld-c, part_room _ _ _ _ _ _ f.room-c f.some-rows (omega (arith, b)) (omega (arith, b)), omega (arith, b));
+      cols_bound = omega (arith, b);
       l_in_bounds = (
         (λ z i l hi hl. plain-inside _ _ _ _ (f.room-b (some-factor g (ap has_k f.routine-is) z)) i l hi hl),
         (λ z l j hl hj. rw c.mirrored_form-f.ensures (mirrored-inside g.uplo _ (order g) _ (f.room-a (some-factor g (ap has_k f.routine-is) z)) l _ (omega (arith, o)) (omega (arith, b, o)))),

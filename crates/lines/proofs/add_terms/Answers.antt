@@ -40,8 +40,8 @@ slice_bounds-entries-count-2 c = omega (arith, first (goal.at.slice_bounds-entri
 pub slice_bounds-entries-start-2 : goal.slice_bounds-entries-start-2
 slice_bounds-entries-start-2 c = omega (arith, first (goal.at.slice_bounds-entries-start-2 c).After-place-from-2)
 
-pub multiply-requires-2-clause-rows_nonzero : goal.multiply-requires-2-clause-rows_nonzero
-multiply-requires-2-clause-rows_nonzero c =
+pub multiply-requires-2-clause-room : goal.multiply-requires-2-clause-room
+multiply-requires-2-clause-room c =
     let room = rw c.if-g.false at c.requires.room in
     simp tail-length (omega (arith, room, columns-room c.args.g.ld c.args.y c.args.h c.requires.n_nonzero.6, column-room c.args.g.ld c.requires.n_nonzero.2, c.requires.n_nonzero, c.requires.n_nonzero.3 c.if-g.false))
 

@@ -46,7 +46,8 @@ trapezoid-requires c =
     let b = c.requires.cols_nonzero in
     let z = sym c.is_zero.ensures ∙ c.if-is_zero.false in
     let u = reads g _ _ _ _ c.op_form-p.ensures c.transposed_form-q.ensures z f.room-a in record {
-      n_le_ld = (f.ld-c, omega (arith, room (goal.at.trapezoid-requires c).After-slice_known-1, c.start_strip.auto), omega (arith, b), omega (arith, b), omega (arith, b), omega (arith, b), omega (arith, b));
+      room = (f.ld-c, omega (arith, room (goal.at.trapezoid-requires c).After-slice_known-1, c.start_strip.auto), omega (arith, b), omega (arith, b));
+      r_nonzero = omega (arith, b);
       by_index = (u.left, u.right);
     }
 

@@ -65,7 +65,8 @@ panel-requires c =
     let n = terms (goal.at.panel-requires c).In-Some in
     let l = c.in-Some.l in
     let e = ap length c.scale.ensures ∙ length-update _ _ ∙ ap length c.pack.ensures ∙ length-update _ _ in record {
-      n_le_ld = omega (arith, n, e);
+      room = omega (arith, n);
+      r_nonzero = omega (arith, n, e);
       terms_nonzero = (omega (arith, n), omega (arith, n), upward _ _ (omega (arith, n)));
       by_index = λ i q hi hq. rw (along-up l q refl) (c.requires.by_index.0 i (l + q) hi (omega (arith, n)));
     }

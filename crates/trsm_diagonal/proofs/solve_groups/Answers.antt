@@ -67,7 +67,7 @@ pub block-requires : goal.block-requires
 block-requires c =
     let fits = group (goal.at.block-requires c).After-least-y in
     record {
-      ld_nonzero = (omega arith, omega arith, simp tail-length (omega arith));
+      room = (omega arith, omega arith, simp tail-length (omega arith));
       rows_bound = (omega arith, omega arith, omega arith, simp tail-length (omega arith));
     }
 

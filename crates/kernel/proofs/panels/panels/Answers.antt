@@ -56,7 +56,8 @@ pub sweep-requires : goal.sweep-requires
 sweep-requires c =
     let fits = terms (goal.at.sweep-requires c).In-Some in
     let e = ap length c.scale.ensures ∙ length-update _ _ ∙ ap length c.pack.ensures ∙ length-update _ _ in record {
-      ld_nonzero = omega (arith, e);
+      room = omega arith;
+      cols_nonzero = omega (arith, e);
       terms_nonzero = (
         omega arith,
         omega arith,
