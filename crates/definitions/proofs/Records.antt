@@ -32,13 +32,13 @@ use Rattle.definitions.proofs.MachineLaws.{Stable, Positive, Steady, whole}
 
 -- ---- the three arrays
 
-array_same : (l : Arrays) (k : ℕ) (v : List Float) → array (with_array l k v) k ≡ v
+pub array_same : (l : Arrays) (k : ℕ) (v : List Float) → array (with_array l k v) k ≡ v
 unfolding array with_array
 array_same l zero v = refl
 array_same l (suc zero) v = refl
 array_same l (suc (suc k)) v = refl
 
-array-twice : (l : Arrays) (k : ℕ) (v w : List Float) → with_array (with_array l k v) k w ≡ with_array l k w
+pub array-twice : (l : Arrays) (k : ℕ) (v w : List Float) → with_array (with_array l k v) k w ≡ with_array l k w
 unfolding with_array
 array-twice l zero v w = refl
 array-twice l (suc zero) v w = refl
@@ -51,7 +51,7 @@ array-self l (suc zero) = refl
 array-self l (suc (suc k)) = refl
 
 -- another array, both numbers being at most 2
-array-other : (l : Arrays) (k n : ℕ) (v : List Float) → k ≤ 2 → n ≤ 2 → (n ≡ k → ⊥) → array (with_array l k v) n ≡ array l n
+pub array-other : (l : Arrays) (k n : ℕ) (v : List Float) → k ≤ 2 → n ≤ 2 → (n ≡ k → ⊥) → array (with_array l k v) n ≡ array l n
 unfolding array with_array
 array-other l zero zero v hk hn h = absurd (h refl)
 array-other l zero (suc zero) v hk hn h = refl

@@ -1,6 +1,6 @@
 -- A strip of a record, on the parts of the arrays that are lent for it: it is that of the definitions, and the parts fit.
 -- Assumes nothing.
-use Prim.Native.Nat.{ℕ, zero, suc, ◌+◌, ◌-◌, ◌*◌, ◌≤◌, ◌<◌, min}
+use Prim.Native.Nat.{ℕ, suc, ◌+◌, ◌-◌, ◌*◌, ◌≤◌, ◌<◌, min}
 use mathlib.Core.Path.{◌≡◌, refl, sym, ap, subst, ◌∙◌}
 use mathlib.Core.Bool.{true, false}
 use mathlib.Core.List.{List, ◌++◌}
@@ -25,36 +25,13 @@ use Rattle.definitions.proofs.Fits.{Fits, Room, ready-fits}
 use Rattle.definitions.proofs.CheckLaws.{room-in-place}
 use Rattle.definitions.proofs.Strips.{strip-clipped}
 use Rattle.definitions.proofs.Records.{reads, reads-A, output-small, input-small, input-apart, input-fits, output-fits, strip-without-B, Accepted, record_call, record-routine}
+use Rattle.definitions.proofs.Records.{array_same, array-twice, array-other}
 use Rattle.strips.specs.Lengths.{FitsArrays}
 use Rattle.records.specs.Judgement.{second, part_at, matrices_of}
 use Rattle.records.specs.declared.Matrices.{Matrices}
 use Rattle.sheet.specs.Lent.{strip_at, zero_at, Lends}
 
 -- ---- the output's array among the others
-
-array_same : (l : Arrays) (n : ℕ) (v : List Float) → array (with_array l n v) n ≡ v
-unfolding array with_array
-array_same l zero v = refl
-array_same l (suc zero) v = refl
-array_same l (suc (suc n)) v = refl
-
-array-twice : (l : Arrays) (n : ℕ) (v w : List Float) → with_array (with_array l n v) n w ≡ with_array l n w
-unfolding with_array
-array-twice l zero v w = refl
-array-twice l (suc zero) v w = refl
-array-twice l (suc (suc n)) v w = refl
-
-array-other : (l : Arrays) (n i : ℕ) (v : List Float) → n ≤ 2 → i ≤ 2 → (i ≡ n → ⊥) → array (with_array l n v) i ≡ array l i
-unfolding array with_array
-array-other l zero zero v hn hi h = absurd (h refl)
-array-other l zero (suc zero) v hn hi h = refl
-array-other l zero (suc (suc i)) v hn hi h = refl
-array-other l (suc zero) zero v hn hi h = refl
-array-other l (suc zero) (suc zero) v hn hi h = absurd (h refl)
-array-other l (suc zero) (suc (suc i)) v hn hi h = refl
-array-other l (suc (suc n)) zero v hn hi h = refl
-array-other l (suc (suc n)) (suc zero) v hn hi h = refl
-array-other l (suc (suc n)) (suc (suc i)) v hn hi h = absurd (h (omega arith))
 
 -- ---- what is lent, and what comes back
 

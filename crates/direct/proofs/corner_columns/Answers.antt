@@ -30,8 +30,8 @@ record Turn (order j first rows ld lc lefts la rights lb : ℕ) : Type 0 where
 turn : (c : After-pick-rows) → Turn c.args.order c.loop-j.j c.pick-first.result c.pick-rows.result c.args.ld (length c.args.c.now) (c.pick-first.result * c.args.a.row) (length c.args.a.cells.now) (c.loop-j.j * c.args.b.column) (length c.args.b.cells.now)
 turn c =
     let inside : Inside c.args.lower c.args.order c.loop-j.j c.pick-first.result c.pick-rows.result = (c.pick-first.ensures, c.pick-rows.ensures) in
-    let some = rows-some c.args.lower _ _ _ _ (inside) c.loop-j-test.true in
-    let within = rows-room c.args.lower _ _ _ _ (inside) c.loop-j-test.true in
+    let some = rows-some c.args.lower _ _ _ _ inside c.loop-j-test.true in
+    let within = rows-room c.args.lower _ _ _ _ inside c.loop-j-test.true in
     record {
       some = some;
       within = within;

@@ -25,7 +25,7 @@ no-remainder c =
 quotient_is : (c : Start) → to_z w64 (of_z w64 (quot_z (to_z w64 (of_z w64 c.args.s)) (to_z w64 (of_z w64 (to_z w16 (of_z w16 c.args.d)))))) ≡ quot_z c.args.s c.args.d
 quotient_is c =
     let quotient_fits : SFits w64 (quot_z c.args.s c.args.d) = let q = quot_z c.args.s c.args.d in record { sfits = omega (arith, mag-abs q, quotient-abs c.args.s c.args.d, c.requires.0) } in
-    rw (same-64 c.args.d c.ranges.d.sfits, to_z-of_z w64 c.args.s c.ranges.s) (to_z-of_z w64 _ (quotient_fits))
+    rw (same-64 c.args.d c.ranges.d.sfits, to_z-of_z w64 c.args.s c.ranges.s) (to_z-of_z w64 _ quotient_fits)
 
 outside : ℤ → Bool
 outside q = lt_z q (negsuc 32767) || lt_z (pos 32767) q
@@ -34,9 +34,9 @@ inside : (c : Else-q) → mag (quot_z c.args.s c.args.d) < 32768
 unfolding outside
 inside c =
     let quotient_fits : SFits w64 (quot_z c.args.s c.args.d) = let q = quot_z c.args.s c.args.d in record { sfits = omega (arith, mag-abs q, quotient-abs c.args.s c.args.d, c.requires.0) } in
-    let quotient_is : to_z w64 (of_z w64 (quot_z (to_z w64 (of_z w64 c.args.s)) (to_z w64 (of_z w64 (to_z w16 (of_z w16 c.args.d)))))) ≡ quot_z c.args.s c.args.d = rw (same-64 c.args.d c.ranges.d.sfits, to_z-of_z w64 c.args.s c.ranges.s) (to_z-of_z w64 _ (quotient_fits)) in
+    let quotient_is : to_z w64 (of_z w64 (quot_z (to_z w64 (of_z w64 c.args.s)) (to_z w64 (of_z w64 (to_z w16 (of_z w16 c.args.d)))))) ≡ quot_z c.args.s c.args.d = rw (same-64 c.args.d c.ranges.d.sfits, to_z-of_z w64 c.args.s c.ranges.s) (to_z-of_z w64 _ quotient_fits) in
     let q = quot_z c.args.s c.args.d in
-    omega (arith, ltb-false 32767 (mag q) (sym (range q) ∙ ap outside (sym (quotient_is)) ∙ c.if-q.false))
+    omega (arith, ltb-false 32767 (mag q) (sym (range q) ∙ ap outside (sym quotient_is) ∙ c.if-q.false))
 
 pub returns-then-s-divisor-ne0 : goal.returns-then-s-divisor-ne0
 returns-then-s-divisor-ne0 c x word h =

@@ -1,4 +1,5 @@
 -- `eliminate` keeps the progress of the elimination.
+use borrow.Author.Rules.{rules}
 use mathlib.Core.Path.{◌≡◌, sym, ap, subst, ◌∙◌}
 use mathlib.Core.List.{List}
 use Prim.Native.Nat.{ℕ, ◌+◌, ◌*◌, ◌≤◌, ◌<◌}
@@ -39,13 +40,13 @@ some c =
 
 quotient : (c : After-divide) → let divisor : ℤ = let g = c.args in get_or g.a.now (c.turn_of-j.result * g.n + c.turn_of-j.result) (pos 0) in
     let remainder : ℤ = get_or c.loop-q.s c.turn_of-j.result (pos 0) in
-    (r : Option ℤ) → c.divide.result ≡ r → QuotientOf (remainder) (divisor) r
+    (r : Option ℤ) → c.divide.result ≡ r → QuotientOf remainder divisor r
 quotient c r e =
     let divisor : ℤ = let g = c.args in get_or g.a.now (c.turn_of-j.result * g.n + c.turn_of-j.result) (pos 0) in
     let remainder : ℤ = get_or c.loop-q.s c.turn_of-j.result (pos 0) in
-    subst (QuotientOf (remainder) (divisor)) e
-    (subst (λ (y : ℤ). QuotientOf y (divisor) c.divide.result) (to_z-of_z w64 (remainder) (record { sfits = c.divide-arg-1.given }))
-    (subst (λ (y : ℤ). QuotientOf (to_z w64 (of_z w64 (remainder))) y c.divide.result) (same_word (divisor) c.divide-arg-in-loop-q-1.given) c.divide.ensures))
+    subst (QuotientOf remainder divisor) e
+    (subst (λ (y : ℤ). QuotientOf y divisor c.divide.result) (to_z-of_z w64 remainder (record { sfits = search rules }))
+    (subst (λ (y : ℤ). QuotientOf (to_z w64 (of_z w64 remainder)) y c.divide.result) (same_word divisor (search rules)) c.divide.ensures))
 
 pub loop-q-init : goal.loop-q-init
 loop-q-init c =
@@ -60,8 +61,8 @@ loop-q-init c =
 
 pub divide-requires : goal.divide-requires
 divide-requires c = (
-  rw (to_z-of_z w64 (remainder (goal.at.divide-requires c).After-turn_of-j) (record { sfits = c.divide-arg-1.given })) (omega (arith, c.loop-q.invariant.1 c.turn_of-j.result c.turn_of-j.ensures.1)),
-  λ e. some (goal.at.divide-requires c).After-turn_of-j (sym (same_word (divisor (goal.at.divide-requires c).After-turn_of-j) c.divide-arg-in-loop-q-1.given) ∙ e),
+  rw (to_z-of_z w64 (remainder (goal.at.divide-requires c).After-turn_of-j) (record { sfits = search rules })) (omega (arith, c.loop-q.invariant.1 c.turn_of-j.result c.turn_of-j.ensures.1)),
+  λ e. some (goal.at.divide-requires c).After-turn_of-j (sym (same_word (divisor (goal.at.divide-requires c).After-turn_of-j) (search rules)) ∙ e),
 )
 
 pub returns-in_default : goal.returns-in_default

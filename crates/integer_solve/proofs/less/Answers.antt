@@ -25,7 +25,7 @@ difference : (c : Start) → SFits w64 (c.args.s -ℤ c.args.u *ℤ c.args.x)
 difference c =
     let small : nat_abs (c.args.u *ℤ c.args.x) ≤ term = term-size c.args.u c.args.x c.ranges.u.sfits c.ranges.x.sfits in
     let z = c.args.s -ℤ c.args.u *ℤ c.args.x in
-    record { sfits = omega (arith, mag-abs z, less-size c.args.s (c.args.u *ℤ c.args.x) (small)) }
+    record { sfits = omega (arith, mag-abs z, less-size c.args.s (c.args.u *ℤ c.args.x) small) }
 
 pub overflow_sub-result : goal.overflow_sub-result
 overflow_sub-result c =

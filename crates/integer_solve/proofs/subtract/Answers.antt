@@ -1,4 +1,5 @@
 -- `subtract` goes from lo on; the remainder that it takes a term from is still as it was.
+use borrow.Author.Rules.{rules}
 use mathlib.Core.Path.{◌≡◌, ap, subst, ◌∙◌}
 use Prim.Native.Nat.{◌+◌, ◌≤◌}
 use native.Mathlib.Omega.{arith}
@@ -25,17 +26,17 @@ loop-i-init c =
 
 pub less-requires : goal.less-requires
 less-requires c =
-    rw (to_z-of_z w64 _ (record { sfits = c.less-arg-1.given }), untouched (goal.at.less-requires c).In-loop-i) (c.requires.3 c.loop-i.i (omega arith))
+    rw (to_z-of_z w64 (get_or c.loop-i.s c.loop-i.i (pos 0)) (record { sfits = search rules }), untouched (goal.at.less-requires c).In-loop-i) (c.requires.3 c.loop-i.i (omega arith))
 
 pub loop-i-preserved : goal.loop-i-preserved
 loop-i-preserved c =
     let l = c.loop-i in
     let a = c.args in
-    let kept = to_z-of_z w64 (get_or l.s l.i (pos 0)) (record { sfits = c.less-arg-1.given }) in
+    let kept = to_z-of_z w64 (get_or l.s l.i (pos 0)) (record { sfits = search rules }) in
     let same = to_z-of_z w64 c.less.result (record { sfits = c.less.type_inv }) in
     let new : c.less.result ≡ less_term a.a.now a.at (to_z w16 (of_z w16 a.x)) a.lo l.i (get_or l.s l.i (pos 0)) =
     c.less.ensures.0
-    ∙ rw (kept, same_word (get_or a.a.now (a.at + l.i) (pos 0)) c.less-arg-in-loop-i-1.given, term-from a.a.now a.at (to_z w16 (of_z w16 a.x)) a.lo l.i (get_or l.s l.i (pos 0)) (omega arith)) in
+    ∙ rw (kept, same_word (get_or a.a.now (a.at + l.i) (pos 0)) (search rules), term-from a.a.now a.at (to_z w16 (of_z w16 a.x)) a.lo l.i (get_or l.s l.i (pos 0)) (omega arith)) in
     let size : nat_abs c.less.result ≤ nat_abs (get_or a.s.now l.i (pos 0)) + term = rw (kept, untouched (goal.at.loop-i-preserved c).In-loop-i) at c.less.ensures.1 in
     rw same (
       ap (set l.s l.i) new ∙ below_more (pos 0) (less_term a.a.now a.at (to_z w16 (of_z w16 a.x)) a.lo) a.s.now l.s l.i l.invariant.0 (omega arith),

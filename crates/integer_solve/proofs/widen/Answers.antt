@@ -1,4 +1,5 @@
 -- `widen` copies from the front.
+use borrow.Author.Rules.{rules}
 use mathlib.Core.Path.{ap, ◌∙◌}
 use native.Mathlib.Omega.{arith}
 use lib.IntN.{pos}
@@ -15,6 +16,6 @@ pub loop-i-preserved : goal.loop-i-preserved
 loop-i-preserved c =
     let l = c.loop-i in
     let a = c.args in (
-      ap (set l.s l.i) (same-64 _ c.s-1.given) ∙ below_more (pos 0) (λ p _. get_or a.b.now p (pos 0)) a.s.now l.s l.i l.invariant.0 (omega arith),
-      one_more (λ p. Word (get_or a.b.now p (pos 0))) l.i l.invariant.1 (fits_word c.s-1.given),
+      ap (set l.s l.i) (same-64 _ (search rules)) ∙ below_more (pos 0) (λ p _. get_or a.b.now p (pos 0)) a.s.now l.s l.i l.invariant.0 (omega arith),
+      one_more (λ p. Word (get_or a.b.now p (pos 0))) l.i l.invariant.1 (fits_word (search rules)),
     )

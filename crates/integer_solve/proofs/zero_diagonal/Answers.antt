@@ -1,4 +1,5 @@
 -- `zero_diagonal` searches from the first entry on.
+use borrow.Author.Rules.{rules}
 use mathlib.Core.Path.{◌≡◌, sym, ap}
 use mathlib.Core.Bool.{true, false}
 use mathlib.Core.List.{List}
@@ -41,7 +42,7 @@ returns-then-a-i-eq0 c =
     let l = c.loop-i in
     let a = c.args in
     let z = get_or a.a.now (l.i * a.n + l.i) (pos 0) in
-    found a.a.now a.n l.i (omega arith) l.invariant (eq-eqb (nat_abs z) 0 (ap nat_abs (zero_bits w16 z (fits_16 c.t9-1.given) c.if-a-i-eq0.true)))
+    found a.a.now a.n l.i (omega arith) l.invariant (eq-eqb (nat_abs z) 0 (ap nat_abs (zero_bits w16 z (fits_16 (search rules)) c.if-a-i-eq0.true)))
 
 pub loop-i-preserved : goal.loop-i-preserved
 unfolding stored

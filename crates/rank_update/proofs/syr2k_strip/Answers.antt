@@ -12,10 +12,10 @@ use Rattle.forms.proofs.Rooms.{part_room}
 use Rattle.rank_update.proofs.Sums.{none-added, product-added, start-alone, all-added, syr2k-value}
 use Rattle.rank_update.proofs.StripLaws.{reads, strip-is}
 use Rattle.rank_update.proofs.syr2k_strip.Goals as goal
-use Rattle.rank_update.proofs.syr2k_strip.Goals.{After-slice_known-1}
+use Rattle.rank_update.proofs.syr2k_strip.Goals.{Start}
 
 -- the part of C has room for the strip
-room : (c : After-slice_known-1) → c.args.cols * c.args.call.ldc + c.args.call.n ≤ length c.args.c.now + c.args.call.ldc
+room : (c : Start) → c.args.cols * c.args.call.ldc + c.args.call.n ≤ length c.args.c.now + c.args.call.ldc
 unfolding shape_c
 room c =
     let f = c.requires.fits in let b = c.requires.cols_nonzero in part_room _ _ _ _ _ _ f.room-c f.some-columns (omega (arith, b)) (omega (arith, b))
@@ -25,7 +25,7 @@ unfolding shape_c
 start_strip-requires c =
     let f = c.requires.fits in
     let b = c.requires.cols_nonzero in
-    (f.some-columns, f.ld-c, room (goal.at.start_strip-requires c).After-slice_known-1, omega (arith, b))
+    (f.some-columns, f.ld-c, room (goal.at.start_strip-requires c).Start, omega (arith, b))
 
 pub returns-then-is_zero : goal.returns-then-is_zero
 unfolding shape_c has_m in_place in_triangle
@@ -47,7 +47,7 @@ trapezoid-requires c =
     let z = sym c.is_zero.ensures ∙ c.if-is_zero.false in
     let u = reads g _ _ _ _ c.op_form-p.ensures c.transposed_form-q.ensures z f.room-a in
     let w = reads g _ _ _ _ c.op_form-p.ensures c.transposed_form-q.ensures z f.room-b in record {
-      room = (f.ld-c, omega (arith, room (goal.at.trapezoid-requires c).After-slice_known-1, c.start_strip.auto), omega (arith, b), omega (arith, b));
+      room = (f.ld-c, omega (arith, room (goal.at.trapezoid-requires c).Start, c.start_strip.auto), omega (arith, b), omega (arith, b));
       r_nonzero = omega (arith, b);
       by_index = (u.left, w.right);
     }
@@ -61,7 +61,7 @@ trapezoid-requires-2 c =
     let z = sym c.is_zero.ensures ∙ c.if-is_zero.false in
     let u = reads g _ _ _ _ c.op_form-p.ensures c.transposed_form-q.ensures z f.room-a in
     let w = reads g _ _ _ _ c.op_form-p.ensures c.transposed_form-q.ensures z f.room-b in record {
-      room = (f.ld-c, omega (arith, room (goal.at.trapezoid-requires-2 c).After-slice_known-1, c.start_strip.auto, c.trapezoid.auto), omega (arith, b), omega (arith, b));
+      room = (f.ld-c, omega (arith, room (goal.at.trapezoid-requires-2 c).Start, c.start_strip.auto, c.trapezoid.auto), omega (arith, b), omega (arith, b));
       r_nonzero = omega (arith, b);
       by_index = (w.left, u.right);
     }

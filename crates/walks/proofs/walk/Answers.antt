@@ -24,9 +24,9 @@ pub loop-j-preserved : goal.loop-j-preserved
 loop-j-preserved c =
     let fits = inside (goal.at.loop-j-preserved c).After-pick-rows in
     let fits2 = room (goal.at.loop-j-preserved c).After-pick-rows in
-    let e = corner-next c.args.lower _ _ _ _ _ _ _ _ _ _ _ (omega arith) (omega arith) c.loop-j-test.true (fits) (omega arith) c.loop-j.invariant.2 c.axpys-count.ensures.1 in
+    let e = corner-next c.args.lower _ _ _ _ _ _ _ _ _ _ _ (omega arith) (omega arith) c.loop-j-test.true fits (omega arith) c.loop-j.invariant.2 c.axpys-count.ensures.1 in
     let n = c.axpys-count.ensures.0 in
-    (omega (arith, n), rw n (counted-more c.args.lower _ _ _ _ _ (fits) c.loop-j-test.true c.loop-j.invariant.1), e)
+    (omega (arith, n), rw n (counted-more c.args.lower _ _ _ _ _ fits c.loop-j-test.true c.loop-j.invariant.1), e)
 
 pub returns : goal.returns
 returns c = let e : c.loop-j.j ≡ c.args.order = omega arith in (counted-all c.args.lower _ _ (rw e at c.loop-j.invariant.1), rw e at c.loop-j.invariant.2)
