@@ -97,3 +97,9 @@ found-answer test n r h = number r h ∙ ap (answer n) (lowest-only test n (unwr
     number : (r : Option ℕ) → Found test n r → answer_of r ≡ answer n (unwrap_or r n)
     number None h = sym (if-false (ltb n n) _ _ (le-ltb n n (omega arith)))
     number (Some r) h = sym (if-true (ltb r n) _ _ (lt-ltb r n h.0))
+
+-- an index that is missing lowers none
+pub lower-none : (r : Option ℕ) → lower r None ≡ r
+unfolding lower
+lower-none None = refl
+lower-none (Some i) = refl

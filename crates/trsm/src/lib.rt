@@ -151,7 +151,9 @@ fn solve_elements(g: Grid, by: Divisor, b: &mut [f64]) -> Option<usize>
     for j in 0..g.m {
         let i = factor::turn_of(by.down, g.m, j);
         solve_element(g, by, b, j);
-        zero = trsm_diagonal::lower(zero, ends_by_zero(by, i).then_some(i));
+        if ends_by_zero(by, i) {
+            zero = trsm_diagonal::lower(zero, Some(i));
+        }
     }
     zero
 }

@@ -127,7 +127,9 @@ fn solve_unknowns(
         let x = j * 64;
         let found = solve_unknown(by, &mut s[to..], g.lines, j, u, &v[row..], x0 + i);
         value_factors(g.left, &mut u[x..], g.lines, &s[to..]);
-        zero = lower(zero, found.then_some(i));
+        if found {
+            zero = lower(zero, Some(i));
+        }
     }
     zero
 }
