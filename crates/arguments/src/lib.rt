@@ -1,7 +1,7 @@
 // The argument check of the six routines, and the number of strips of a call. Tests whose value goes on are joined by | and &, which have no branches.
 #![tactic(auto)]
 
-ghost use Rattle.std.specs.Prelude.{◌≡◌, true, false, ◌<◌, eqb, if◌then◌else◌};
+ghost use Rattle.std.specs.Prelude.{◌≡◌, ◌<◌, if◌then◌else◌};
 ghost use Rattle.definitions.specs.Storage as Storage;
 ghost use Rattle.definitions.specs.Call as Calls;
 ghost use Rattle.definitions.specs.Call.{◌by◌};

@@ -1,7 +1,7 @@
 // B by lines, what TRMM and TRSM share: a line is a column of B for side L and a row for side R.
 #![tactic(auto)]
 
-ghost use Rattle.std.specs.Prelude.{◌≡◌, true, false, ℕ, ◌+◌, ◌-◌, ◌*◌, ◌≤◌, ◌<◌, length, if◌then◌else◌};
+ghost use Rattle.std.specs.Prelude.{◌≡◌, false, ℕ, ◌+◌, ◌-◌, ◌*◌, ◌≤◌, ◌<◌, length, if◌then◌else◌};
 ghost use Rattle.arrays.specs.Update.{update};
 ghost use Rattle.arrays.specs.Fold.{fold};
 ghost use Rattle.floats.specs.Array.{at};
