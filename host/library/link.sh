@@ -48,7 +48,7 @@ compile() {
 # Inlined are the crates, modules and functions on the way from a call to the loops, so that each call has a check and a way of its own. Not inlined are functions
 # that have buffers, so that a tiny call has none of them in its frame. The others are left to the compiler.
 inlined='definitions packing::factor::turn_of packing::mirror packing::pack::transposed arguments start forms direct kernel walks triangles lines elements gemm
-    rank_update::syrk_strip rank_update::syr2k_strip trmm_diagonal trmm trsm_diagonal trsm strips blas many'
+    rank_update::syrk_strip rank_update::syr2k_strip trmm_diagonal trmm trsm_diagonal trsm strips blas many records'
 once() { [ "$(grep -cxe "$1" "$in/words")" = 1 ]; }
 if [ -f "$in/words" ] && once -march=x86-64 && once '.*\.bc' && once '.*\.o'; then
     "$in/clang" -x ir -S -emit-llvm -O0 -Xclang -disable-llvm-passes "$in/module.bc" -o module.ll

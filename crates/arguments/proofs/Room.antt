@@ -1,9 +1,14 @@
 -- The elements that an array of a shape needs, and products of sizes.
 -- Assumes nothing.
 use mathlib.Core.Path.{◌≡◌, refl}
-use Prim.Native.Nat.{ℕ, zero, suc, ◌<◌, ◌*◌, ◌+◌, ◌-◌}
+use Prim.Native.Nat.{ℕ, zero, suc, ◌≤◌, ◌<◌, ◌*◌, ◌+◌, ◌-◌}
+use native.Mathlib.Nat.{mul-le-mul}
 use native.Mathlib.Omega.{arith}
 use Rattle.definitions.specs.Storage.{needed}
+
+-- Two numbers of 32 bits have a product of 64 bits, and room for a third to be added.
+pub product-fits : (x y : ℕ) → x ≤ 4294967295 → y ≤ 4294967295 → x * y ≤ 4294967295 * 4294967295
+product-fits x y h k = mul-le-mul h k
 
 pub needed-empty : (ld p q : ℕ) → q ≡ 0 → 0 ≡ needed ld p q
 unfolding needed

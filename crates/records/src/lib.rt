@@ -45,10 +45,10 @@ pub struct Arrays<'a> {
 
 // Their lengths.
 #[derive(Clone, Copy)]
-struct Lengths {
-    x: usize,
-    y: usize,
-    z: usize,
+pub struct Lengths {
+    pub x: usize,
+    pub y: usize,
+    pub z: usize,
 }
 
 // A matrix of a record: the number of its array, and the offset of its first element.
@@ -157,7 +157,7 @@ fn routine_of(code: i32) -> Option<Routine>
 }
 
 // The word of the array number of the matrix that the routine writes: C, or B for TRMM and TRSM.
-fn output(routine: Routine) -> usize
+pub fn output(routine: Routine) -> usize
     ensures { (result ≡ Sheets.output routine) × (result ≤ 15) }
 {
     match routine {
@@ -167,7 +167,7 @@ fn output(routine: Routine) -> usize
 }
 
 // The word of the array number of the matrix that is lent as B: A again in a routine that reads no other matrix.
-fn second(routine: Routine) -> usize
+pub fn second(routine: Routine) -> usize
     ensures { (result ≡ Judgement.second routine) × (result ≤ 15) }
 {
     match routine {
@@ -278,19 +278,14 @@ impl Record<'_> {
         }
     }
 
-    // All tests of the record.
-    pub fn judge(self, arrays: Arrays) -> Judged
-        ensures { let t = Judgement.sheet_in self.entry.sheet in let size = Judgement.sizes (Judgement.lengths_of (Judgement.arrays_in arrays.entry)) in
-            (result ≡ Judgement.judged t self.entry.p size (Sheets.routine_of (Sheets.field t self.entry.p 0)))
+    // All tests of the record, for arrays of these lengths.
+    pub fn judge(self, lengths: Lengths) -> Judged
+        ensures { let t = Judgement.sheet_in self.entry.sheet in
+            (result ≡ Judgement.judged t self.entry.p (Judgement.sizes lengths) (Sheets.routine_of (Sheets.field t self.entry.p 0)))
             × (Judgement.extent_of result < 2 ^ 31) }
     {
         let Some(f) = routine_of(self.word(0)) else {
             return Judged::Rejected(31);
-        };
-        let lengths = Lengths {
-            x: arrays.x.len(),
-            y: arrays.y.len(),
-            z: arrays.z.len(),
         };
         if self.bad_arrays(f) {
             return Judged::Rejected(32);
@@ -307,7 +302,12 @@ impl Record<'_> {
     fn strips_of(self, arrays: Arrays) -> usize
         ensures { result ≡ Machine.strips_of (Sheets.act (Judgement.sheet_in self.entry.sheet) self.entry.p (Judgement.arrays_in arrays.entry)) }
     {
-        match self.judge(arrays) {
+        let lengths = Lengths {
+            x: arrays.x.len(),
+            y: arrays.y.len(),
+            z: arrays.z.len(),
+        };
+        match self.judge(lengths) {
             Judged::Rejected(_) => 0,
             Judged::NoWork(call) | Judged::Work(call) => arguments::strips(self.width(), call),
         }
@@ -317,7 +317,7 @@ impl Record<'_> {
 // ---- the tests of a run
 
 // A word of the sheet as a size.
-fn size_at(words: &[i32], at: usize) -> usize
+pub fn size_at(words: &[i32], at: usize) -> usize
     requires { at < length words.now }
     ensures { (result ≡ Check.nat (get_or words.now at (pos 0))) × (result < 2 ^ 31) }
 {

@@ -1,6 +1,6 @@
 -- How a run ends: refused, or after the steps that it made.
 -- Assumes nothing.
-use Prim.Native.Nat.{ℕ, ◌<◌}
+use Prim.Native.Nat.{ℕ, ◌≤◌, ◌<◌}
 use mathlib.Core.Path.{◌≡◌, sym, ap, subst, ◌∙◌}
 use mathlib.Core.Bool.{true, false, not}
 use mathlib.Core.List.{List}
@@ -19,6 +19,13 @@ use Rattle.definitions.specs.Run.{begin, after, steps_made, zero_reported, too_s
 module _ (t : Sheet) (l : Arrays) (answers : List ℤ) (p s : ℤ) where
   abbrev e : ℕ
   e = run_refusal t l answers p s
+
+  pub number_small : e ≤ 36
+  unfolding run_refusal
+  number_small =
+      by-test (not (sound t))
+      (λ h. rw h (omega arith))
+      (λ h. by-test (too_short t answers) (λ k. rw (h, k) (omega arith)) (λ k. by-test (bad_cursor t l p s) (λ b. rw (h, k, b) (omega arith)) (λ b. rw (h, k, b) (omega arith))))
 
   -- what an accepted run satisfies
   pub record Passed : Type 0 where

@@ -31,8 +31,6 @@ use Rattle.records.specs.Judgement.{second, part_at, matrices_of}
 use Rattle.records.specs.declared.Matrices.{Matrices}
 use Rattle.sheet.specs.Lent.{strip_at, zero_at, Lends}
 
--- ---- the output's array among the others
-
 -- ---- what is lent, and what comes back
 
 -- `out` is the output's array; the others are those of l

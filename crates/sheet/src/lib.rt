@@ -16,7 +16,7 @@ ghost use Rattle.strips.specs.Lengths.{FitsArrays};
 ghost use Rattle.sheet.specs.Lent as Lent;
 
 use definitions::{Call, RunEnd};
-use records::{Arrays, Judged, Matrices, Record, Sheet};
+use records::{Arrays, Judged, Lengths, Matrices, Record, Sheet};
 
 // A record and one of its strips.
 #[derive(Clone, Copy)]
@@ -160,7 +160,12 @@ fn step(
         × (result.zero ≡ then_some (Machine.counts act st) here.entry.p) × (result.cursor.s < 2 ^ 31) }
 {
     let cursor = Cursor { p: here.p, s };
-    match here.judge(Arrays { x, y, z }) {
+    let lengths = Lengths {
+        x: x.len(),
+        y: y.len(),
+        z: z.len(),
+    };
+    match here.judge(lengths) {
         Judged::Rejected(number) => {
             answers[here.p] = number as i32;
             Stepped {

@@ -147,7 +147,22 @@ pub fn across(g: Grid, by: Multiplier, b: &[f64], p0: usize, n: usize, s: &mut [
     groups(by.after, s, g.lines, n, &x, &v);
 }
 
-// The same where z holds the sums as the side does: for side L they are turned across and back.
+// Side L: the same where z holds the sums by columns, turned across and back. Its buffer stands in a frame of its own, which side R does not have.
+fn turned(g: Grid, by: Multiplier, b: &[f64], p0: usize, n: usize, z: &mut [f64])
+    requires left { g.left ≡ true }
+    requires n_nonzero { (0 < n) × (n ≤ 64) × (p0 + n ≤ g.m) × (0 < g.lines) × (g.lines ≤ 64) × (4096 ≤ length z.old) }
+    requires room { GridRoom g (length b.now) }
+    requires by_index { Square by.a g.m }
+    ensures { z.new ≡ update (grid g.left 64 n g.lines (λ q l e. fold (term_from g.left by.entry.after by.entry.alpha (matrix_of by.entry) p0 (λ k. at b.now (cell g.left g.ld (p0 + k) l)) (p0 + q)) n e)) z.old }
+{
+    let sums = Grid { ld: 64, m: n, ..g };
+    let mut s = [0.0f64; 4096];
+    lines::take(sums, false, &mut s, z, 0, n);
+    across(g, by, b, p0, n, &mut s);
+    lines::put(sums, false, z, 0, n, &s);
+}
+
+// The same on either side, where z holds the sums as the side does.
 pub fn diagonal(g: Grid, by: Multiplier, b: &[f64], p0: usize, n: usize, z: &mut [f64])
     requires n_nonzero { (0 < n) × (n ≤ 64) × (p0 + n ≤ g.m) × (0 < g.lines) × (g.lines ≤ 64) × (4096 ≤ length z.old) }
     requires room { GridRoom g (length b.now) }
@@ -155,11 +170,7 @@ pub fn diagonal(g: Grid, by: Multiplier, b: &[f64], p0: usize, n: usize, z: &mut
     ensures { z.new ≡ update (grid g.left 64 n g.lines (λ q l e. fold (term_from g.left by.entry.after by.entry.alpha (matrix_of by.entry) p0 (λ k. at b.now (cell g.left g.ld (p0 + k) l)) (p0 + q)) n e)) z.old }
 {
     if g.left {
-        let sums = Grid { ld: 64, m: n, ..g };
-        let mut s = [0.0f64; 4096];
-        lines::take(sums, false, &mut s, z, 0, n);
-        across(g, by, b, p0, n, &mut s);
-        lines::put(sums, false, z, 0, n, &s);
+        turned(g, by, b, p0, n, z);
         return;
     }
     across(g, by, b, p0, n, z);

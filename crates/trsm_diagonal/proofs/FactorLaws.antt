@@ -1,7 +1,7 @@
 -- The factors of the terms of a diagonal block, and the end of a sum.
 -- Assumes nothing.
 use mathlib.Core.Bool.{Bool, true, false}
-use mathlib.Core.Path.{◌≡◌, refl, sym, ap, ◌∙◌}
+use mathlib.Core.Path.{◌≡◌, refl, sym, ap, ap₂, ◌∙◌}
 use mathlib.Core.List.{List}
 use Prim.Native.Nat.{ℕ, ◌+◌, ◌*◌, ◌<◌, ◌≤◌}
 use native.Mathlib.Omega.{arith}
@@ -17,6 +17,7 @@ use Rattle.definitions.specs.Element.{divided}
 use Rattle.definitions.specs.declared.Diagonal.{Diagonal}
 use Rattle.definitions.specs.declared.Diagonal.TheVariants.{Unit, Nonunit}
 use Rattle.packing.specs.Factor.{Matrix, turn}
+use Rattle.packing.proofs.FactorLaws.{turn_below}
 use Rattle.lines.specs.Lines.{cell, grid, line_term, coefficient, Beside}
 use Rattle.lines.proofs.GridLaws.{grid-at}
 use Rattle.trsm_diagonal.specs.Solve.{sum_after, solve_term, solve_end, value_factor, matrix_factor, packed_term, block_value, packed_value, block_from}
@@ -93,18 +94,20 @@ unfolding line_term
 shifted-term true T x0 i j e x = refl
 shifted-term false T x0 i j e x = refl
 
-pub packed-is : (left down : Bool) (n x0 : ℕ) (diag : Diagonal) (T : Matrix) (v : List Float) (s : ℕ → Float)
+pub packed-is : (left down : Bool) (n x0 : ℕ) (diag : Diagonal) (T D : Matrix) (v : List Float) (s : ℕ → Float)
+    → ((i : ℕ) → i < n → D i i ≡ T (x0 + i) (x0 + i))
     → ((q p : ℕ) → p < q → q < n → at v (turn down n q * 64 + p) ≡ matrix_factor left (coefficient left T (x0 + turn down n q) (x0 + turn down n p)))
-    → (q : ℕ) → q < n → packed_value left down n diag (block_from x0 T) v s q ≡ block_value left down n diag (block_from x0 T) s q
+    → (q : ℕ) → q < n → packed_value left down n diag D v s q ≡ block_value left down n diag (block_from x0 T) s q
 unfolding packed_value block_value packed_term solve_term solve_end sum_after
-packed-is left down n x0 diag T v s factors q hq =
-    value-only nan (solve_term left down n (block_from x0 T)) (solve_end diag down n (block_from x0 T)) (λ q. s (turn down n q)) (packed_value left down n diag (block_from x0 T) v s) n
+packed-is left down n x0 diag T D v s diagonal factors q hq =
+    value-only nan (solve_term left down n (block_from x0 T)) (solve_end diag down n (block_from x0 T)) (λ q. s (turn down n q)) (packed_value left down n diag D v s) n
     (λ q hq.
-    value-is nan (packed_term left down n v) (solve_end diag down n (block_from x0 T)) (λ q. s (turn down n q)) q
-    ∙ ap (λ (e : Float). divided diag e (T (x0 + turn down n q) (x0 + turn down n q)))
+    value-is nan (packed_term left down n v) (solve_end diag down n D) (λ q. s (turn down n q)) q
+    ∙ ap₂ (λ (e y : Float). divided diag e y)
     (fold_same _ _ q _
     (λ p hp e.
-    ap (λ (y : Float). e ⊕ y ⊗ value_factor left (packed_value left down n diag (block_from x0 T) v s p)) (factors q p hp hq)
-    ∙ sym (term_is left T (x0 + turn down n q) (x0 + turn down n p) e (packed_value left down n diag (block_from x0 T) v s p))
-    ∙ sym (shifted-term left T x0 (turn down n q) (turn down n p) e (packed_value left down n diag (block_from x0 T) v s p)))))
+    ap (λ (y : Float). e ⊕ y ⊗ value_factor left (packed_value left down n diag D v s p)) (factors q p hp hq)
+    ∙ sym (term_is left T (x0 + turn down n q) (x0 + turn down n p) e (packed_value left down n diag D v s p))
+    ∙ sym (shifted-term left T x0 (turn down n q) (turn down n p) e (packed_value left down n diag D v s p))))
+    (diagonal (turn down n q) (turn_below down n q hq)))
     q hq

@@ -1,6 +1,6 @@
 -- `solve_across` solves a diagonal block whose lines stand across: with its factors in a buffer the unknowns get the same values.
 use mathlib.Core.Bool.{false}
-use mathlib.Core.Path.{◌∙◌}
+use mathlib.Core.Path.{refl, ◌∙◌}
 use Prim.Native.Nat.{◌+◌}
 use native.Mathlib.Omega.{arith}
 use Rattle.forms.specs.Forms.{op_matrix}
@@ -21,6 +21,6 @@ returns c =
     let args = c.args in (
       c.solve_groups.ensures.0
           ∙ ordered_same false args.by.down args.g.ld args.g.m args.g.lines _ _ args.s.now (omega (arith, c.requires))
-          (λ q l hq hl x. packed-is args.g.left args.by.down args.g.m args.x0 args.by.diag (op_matrix args.by.a) _ _ c.matrix_factors.ensures q hq),
+          (λ q l hq hl x. packed-is args.g.left args.by.down args.g.m args.x0 args.by.diag (op_matrix args.by.a) _ _ _ (λ i h. refl) c.matrix_factors.ensures q hq),
       c.solve_groups.ensures.1,
     )
